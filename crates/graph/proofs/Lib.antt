@@ -1,0 +1,12 @@
+pub mod Sums
+pub mod Lists
+pub mod Walks
+pub mod Trees
+pub mod Relabel
+pub mod Relabels
+pub mod Regrow
+pub mod Regrows
+pub mod Raise
+pub mod Raises
+pub mod Clashes
+pub mod Valued

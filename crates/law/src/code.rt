@@ -1,0 +1,28 @@
+//! The number of each refusal.
+
+ghost use mathlib.Core.Path.{_≡_};
+ghost use Rattle.law.specs.Refusals.{code-of};
+use crate::call::Refusal;
+
+impl Refusal {
+    /// The number by which users know the refusal.
+    pub fn code(&self) -> u16
+        ensures { λ r. ⌜ r ≡ code-of (now (self .entry)) ⌝ }
+    {
+        match *self {
+            Refusal::NotOpen => 1,
+            Refusal::NotNew => 2,
+            Refusal::TrialOut => 3,
+            Refusal::UnknownMarker => 4,
+            Refusal::SameMarker => 5,
+            Refusal::ClosedMarker => 6,
+            Refusal::BadAmount => 7,
+            Refusal::ShortBuffer => 8,
+            Refusal::PairEmpty => 9,
+            Refusal::StoreFull => 10,
+            Refusal::Contradiction { length: _ } => 11,
+            Refusal::WrongToken => 12,
+            Refusal::BadTie { from: _, to: _ } => 13,
+        }
+    }
+}

@@ -1,0 +1,2 @@
+mod Saturated
+pub mod Within

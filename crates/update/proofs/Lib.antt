@@ -1,0 +1,14 @@
+pub mod Relaxes
+pub mod Rows
+pub mod Turns
+pub mod Picks
+pub mod Sizes
+pub mod Counts
+pub mod Shrinks
+pub mod Cycles
+pub mod Lowers
+pub mod Settling
+pub mod Starts
+pub mod Ends
+pub mod Begins
+pub mod Restores
