@@ -1,4 +1,4 @@
-//! Making a solver, and taking it apart.
+//! Making a solver.
 
 ghost use mathlib.Core.Path.{_≡_};
 ghost use mathlib.Core.List.{[]};
@@ -33,23 +33,5 @@ impl<S: TieStore, M: Measure> Solver<S, M> {
             changes: 0,
             table,
         }
-    }
-
-    /// The store and the measure, with all accepted changes.
-    pub fn into_parts(self) -> (S, M)
-        requires suits { ⌜ Suits S·TieStore M·Measure self ⌝ }
-        ensures sound { λ r. ⌜ S·TieStore .sound (r .0) ⌝ }
-        ensures store { λ r. ⌜ r .0 ≡ self .store ⌝ }
-    {
-        let Solver {
-            store,
-            measure,
-            total: _,
-            number: _,
-            state: _,
-            changes: _,
-            table: _,
-        } = self;
-        (store, measure)
     }
 }

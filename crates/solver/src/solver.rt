@@ -5,6 +5,7 @@ use measure::Amount;
 use table::DepthTable;
 
 /// A store of ties, with the table of the deepest depths that they allow.
+#[derive(Drop)]
 pub struct Solver<S, M> {
     pub(crate) store: S,
     pub(crate) measure: M,
