@@ -13,7 +13,7 @@ use Rattle.measure.specs.declared.Amount.{Amount}
 use Rattle.measure.specs.declared.Measure as measure
 use Rattle.store.specs.Meaning.{StoreMeaning, Lawful, same-pair, set-tie}
 use Rattle.graph.specs.Weights.{valued}
-use Rattle.graph.proofs.Relabel.{Lowered}
+use Rattle.graph.specs.Change.{Lowered}
 use Rattle.graph.proofs.Valued.{amount-of}
 use Rattle.graph.proofs.Walks.{Smaller}
 use Rattle.law.specs.Standing.{bound-at, bounds-of, Ties}

@@ -14,7 +14,7 @@ use Rattle.measure.specs.Least.{first-of}
 use Rattle.measure.proofs.Within.{wider-to}
 use Rattle.store.specs.Meaning.{same-pair, set-tie}
 use Rattle.graph.specs.Weights.{valued}
-use Rattle.graph.proofs.Relabel.{Lowered}
+use Rattle.graph.specs.Change.{Lowered}
 use Rattle.graph.proofs.Valued.{amount-of}
 use Rattle.law.specs.Standing.{bound-at, bounds-of, capped, Ties}
 use Rattle.bounds.specs.Small.{BoundsSound, Small}

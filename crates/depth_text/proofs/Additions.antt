@@ -2,7 +2,6 @@
 use mathlib.Core.Path.{_≡_, refl, sym, ap, subst, _∙_}
 use mathlib.Core.List.{List, [], _∷_, _++_, append-assoc, map}
 use Prim.Native.Nat.{ℕ, zero, suc, _+_, _<_, _≤_}
-use native.Mathlib.Numerals.{add-one}
 use denote.Ref.{RefT}
 use lib.ListN.{length, getD, take}
 use Rattle.std.proofs.shelf.Lists.{joined-more, map-more, take-all}
@@ -11,7 +10,7 @@ use Rattle.std.specs.Written.{signed}
 use Rattle.std.specs.declared.result.Result.{Result}
 use Rattle.std.specs.declared.result.Result.the-variants.{Ok, Err}
 use Rattle.measure.specs.declared.Amount.{Amount}
-use Rattle.depth_text.specs.Lines.{Adds, ended, row-line, rows-text, contradiction-word, contradiction-line, name-in, depth-in, parent-in}
+use Rattle.depth_text.specs.Lines.{Adds, ended, row-line, contradiction-word, contradiction-line, name-in}
 
 -- the bytes y after the bytes x
 pub adds-after : {E : Type 0} (v x y a b : List ℕ) (r : Result (Unit {0}) E) → a ≡ v ++ x → Adds a y r b → Adds v (x ++ y) r b
@@ -47,19 +46,6 @@ texts-at : (names : List (RefT (List ℕ))) (m : ℕ) → getD names m no-name .
 texts-at [] m = refl
 texts-at (name ∷ names) zero = refl
 texts-at (name ∷ names) (suc m) = texts-at names m
-
--- one more row
-pub rows-more : (names : List (RefT (List ℕ))) (depths : List Amount) (parents : List ℕ) (m : ℕ) (v a b : List ℕ)
-    → a ≡ v ++ rows-text (name-in names) (depth-in depths) (parent-in parents) m
-    → b ≡ a ++ row-line (getD names m no-name .now) (depth-in depths m) (getD names (parent-in parents m) no-name .now)
-    → b ≡ v ++ rows-text (name-in names) (depth-in depths) (parent-in parents) (m + 1)
-rows-more names depths parents m v a b p q =
-    q
-    ∙ ap (λ s. a ++ row-line s (depth-in depths m) (getD names (parent-in parents m) no-name .now)) (texts-at names m)
-    ∙ ap (λ s. a ++ row-line (name-in names m) (depth-in depths m) s) (texts-at names (parent-in parents m))
-    ∙ ap (λ s. s ++ row-line (name-in names m) (depth-in depths m) (name-in names (parent-in parents m))) p
-    ∙ append-assoc v _ _
-    ∙ ap (λ k. v ++ rows-text (name-in names) (depth-in depths) (parent-in parents) k) (sym (add-one m))
 
 -- one more name
 pub names-more : (names : List (RefT (List ℕ))) (markers : List ℕ) (i : ℕ) (v a b : List ℕ) → i < length markers

@@ -56,12 +56,6 @@ texts names = map (λ name. name .now) names
 abbrev pub name-in : List (RefT (List ℕ)) → ℕ → List ℕ
 name-in names m = getD (texts names) m []
 
-abbrev pub depth-in : List Amount → ℕ → Amount
-depth-in depths m = getD depths m (record { mm = pos 0; marks = pos 0 })
-
-abbrev pub parent-in : List ℕ → ℕ → ℕ
-parent-in parents m = getD parents m 0
-
 -- the first n of the markers have names
 abbrev pub Named : List (RefT (List ℕ)) → List ℕ → ℕ → Type 0
 Named names markers n = (k : ℕ) → k < n → getD markers k 0 < length names

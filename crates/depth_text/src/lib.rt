@@ -1,11 +1,10 @@
 //! The lines that the program writes, as bytes.
 
 ghost use mathlib.Core.List.{_∷_, _++_};
-ghost use Prim.Native.Nat.{_≤_};
 ghost use lib.ListN.{length};
 ghost use Rattle.std.specs.Of.Vec.{vec-items};
 ghost use Rattle.std.specs.Written.{signed};
-ghost use Rattle.depth_text.specs.Lines.{Adds, Named, row-line, rows-text, contradiction-line, refused-line, name-in, depth-in, parent-in};
+ghost use Rattle.depth_text.specs.Lines.{Adds, Named, row-line, contradiction-line, refused-line, name-in};
 use measure::Amount;
 use std::alloc::AllocError;
 use std::alloc::Global;
@@ -46,34 +45,6 @@ pub fn add_row(
     add_numbers(out, heap, depth.mm, depth.marks)?;
     add_spaced(out, parent)?;
     add(out, b"\n")
-}
-
-/// Adds the lines of the first `n` markers.
-pub fn add_rows(
-    out: &mut Vec<u8>,
-    heap: Global,
-    names: &[&[u8]],
-    depths: &[Amount],
-    parents: &[u16],
-    n: u16,
-) -> Result<(), AllocError>
-    requires names { ⌜ n ≤ length (now names) ⌝ }
-    requires depths { ⌜ n ≤ length (now depths) ⌝ }
-    requires parents { ⌜ n ≤ length (now parents) ⌝ }
-    requires named { ⌜ Named (now names) (now parents) n ⌝ }
-    ensures { λ r. ⌜ Adds (vec-items (now (out .entry))) (rows-text (name-in (now (names .entry))) (depth-in (now (depths .entry))) (parent-in (now (parents .entry))) n) r (vec-items (now (out .exit))) ⌝ }
-{
-    for m in 0..n {
-        let marker = m as usize;
-        add_row(
-            out,
-            heap,
-            names[marker],
-            depths[marker],
-            names[parents[marker] as usize],
-        )?;
-    }
-    Ok(())
 }
 
 /// Adds the line of a contradiction: the names of the cycle's markers.

@@ -9,7 +9,7 @@ use native.Mathlib.Omega.{arith}
 use Rattle.measure.specs.Group.{OrderedGroup}
 use Rattle.graph.specs.Graph.{Weight, In, Different, Edge, Walk, Cycle, Fits}
 use Rattle.graph.specs.Tree.{climb, way, Tree, Tight}
-use Rattle.graph.proofs.Relabel.{Lowered}
+use Rattle.graph.specs.Change.{Lowered}
 use Rattle.graph.proofs.Regrow.{Born, Grown, Clash}
 use Rattle.graph.proofs.Regrow.Born.{same, first, later}
 use Rattle.graph.proofs.Sums.{le-of-eq, stands-on, cycle-negative}

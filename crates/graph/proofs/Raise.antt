@@ -6,13 +6,10 @@ use mathlib.Core.Logic.{_⊎_}
 use mathlib.Core.Option.{some}
 use Prim.Native.Nat.{ℕ, _<_}
 use Rattle.measure.specs.Group.{OrderedGroup}
+use Rattle.graph.specs.Change.{Raised}
 use Rattle.graph.specs.Graph.{Weight, Edge, Fits}
 use Rattle.graph.specs.Tree.{Tree}
 use Rattle.graph.proofs.Relabel.{Relabel}
-
--- each edge of w′ was an edge of w, of no more weight
-abbrev pub Raised : (g : OrderedGroup) → ℕ → Weight g → Weight g → Type 0
-Raised g n w w′ = (x y : ℕ) (c : g .carrier) → Edge g n w′ x y c → (c′ : g .carrier) × Edge g n w x y c′ × g .le c′ c
 
 -- depths that fit still fit
 abbrev pub Raised-fits : OrderedGroup → Type 0

@@ -8,7 +8,8 @@ use Rattle.measure.specs.Group.{OrderedGroup}
 use Rattle.graph.specs.Graph.{Weight, Edge, Fits}
 use Rattle.graph.specs.Tree.{climb, Tree}
 use Rattle.graph.proofs.Relabel.{Relabel}
-use Rattle.graph.proofs.Raise.{Raised, Raised-fits, Started, Raise-starts, Raise-ends, Ranked}
+use Rattle.graph.specs.Change.{Raised}
+use Rattle.graph.proofs.Raise.{Raised-fits, Started, Raise-starts, Raise-ends, Ranked}
 use Rattle.graph.proofs.Sums.{lowered-le, ahead-first}
 use Rattle.graph.proofs.Trees.{short-climbs}
 use Rattle.graph.proofs.Relabels.{which}

@@ -8,7 +8,8 @@ use Prim.Native.Nat.{ℕ, zero, suc, _≤_, _<_}
 use Rattle.measure.specs.Group.{OrderedGroup}
 use Rattle.graph.specs.Graph.{Weight, Edge, Fits, Cycle}
 use Rattle.graph.specs.Tree.{climb, way, Tree, Tight}
-use Rattle.graph.proofs.Relabel.{Lowered, Relabel, Below, Settles}
+use Rattle.graph.specs.Change.{Lowered}
+use Rattle.graph.proofs.Relabel.{Relabel, Below, Settles}
 
 -- y was settled in turn t
 pub record Turned (t : ℕ) (y : ℕ) (turn turn′ : ℕ → ℕ) : Type 0 where

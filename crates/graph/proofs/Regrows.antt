@@ -9,7 +9,8 @@ use native.Mathlib.Omega.{arith}
 use Rattle.measure.specs.Group.{OrderedGroup}
 use Rattle.graph.specs.Graph.{Weight, Edge, Fits}
 use Rattle.graph.specs.Tree.{climb, Tree, Tight}
-use Rattle.graph.proofs.Relabel.{Lowered, Relabel, Settles}
+use Rattle.graph.specs.Change.{Lowered}
+use Rattle.graph.proofs.Relabel.{Relabel, Settles}
 use Rattle.graph.proofs.Regrow.{Born, Grown, Regrafted, Turned, Ended, Grows-one, Regrown}
 use Rattle.graph.proofs.Regrow.Born.{same, first, later}
 use Rattle.graph.proofs.Sums.{le-dec, le-of-eq, not-fallen, tight-again}

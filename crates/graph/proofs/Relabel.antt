@@ -3,18 +3,10 @@
 use mathlib.Core.Path.{_≡_}
 use mathlib.Core.Bool.{Bool, true, false}
 use mathlib.Core.Logic.{_⊎_}
-use mathlib.Core.List.{List, [], _∷_, _++_}
-use mathlib.Core.Option.{Option, some}
-use Prim.Native.Nat.{ℕ, zero, suc, _<_}
+use Prim.Native.Nat.{ℕ, _<_}
 use Rattle.measure.specs.Group.{OrderedGroup}
-use Rattle.graph.specs.Graph.{Weight, Edge, Walk, Fits}
-use Rattle.graph.specs.Tree.{climb, Tight}
-
--- w′ is w, but that the weight of the pair a b is now c, which is no more than it was
-pub record Lowered (g : OrderedGroup) (w w′ : Weight g) (a b : ℕ) (c : g .carrier) : Type 0 where
-  pub at : w′ a b ≡ some c
-  pub less : (c′ : g .carrier) → w a b ≡ some c′ → g .le c c′
-  pub other : (x y : ℕ) → ¬ ((x ≡ a) × (y ≡ b)) → w′ x y ≡ w x y
+use Rattle.graph.specs.Change.{Lowered}
+use Rattle.graph.specs.Graph.{Weight, Edge, Fits}
 
 -- depths that fit still fit if they keep the edge that is new
 abbrev pub Unmoved : OrderedGroup → Type 0

@@ -10,7 +10,8 @@ use native.Mathlib.Omega.{arith}
 use Rattle.measure.specs.Group.{OrderedGroup}
 use Rattle.graph.specs.Graph.{Weight, Edge, Walk, Fits}
 use Rattle.graph.specs.Tree.{climb, way, Tight}
-use Rattle.graph.proofs.Relabel.{Lowered, Unmoved, Relabel, Picked, Settles, Relaxed, Settled-stays, Settles-one, Relabelled}
+use Rattle.graph.specs.Change.{Lowered}
+use Rattle.graph.proofs.Relabel.{Unmoved, Relabel, Picked, Settles, Relaxed, Settled-stays, Settles-one, Relabelled}
 use Rattle.graph.proofs.Sums.{stays, ahead-on, self-le}
 use Rattle.graph.proofs.Walks.{Smaller, smaller-walk, walk-push}
 

@@ -2,10 +2,12 @@
 use mathlib.Core.Path.{_≡_, refl, sym, _∙_, ap, subst}
 use mathlib.Core.List.{List, [], _∷_, _++_}
 use mathlib.Core.Option.{Option, some}
-use Prim.Native.Nat.{ℕ}
+use mathlib.Core.Logic.{inl, inr}
+use Prim.Native.Nat.{ℕ, _<_}
 use Rattle.measure.specs.Group.{OrderedGroup}
-use Rattle.graph.specs.Graph.{Edge, Walk, Weight, Cycle, Fits}
+use Rattle.graph.specs.Graph.{Cycle, Different, Edge, Fits, In, Walk, Weight}
 use Rattle.graph.specs.Theorems.{No-negative-closed-walk, Negative-cycle-refutes, TightWalk, Tight-prefixes}
+use Rattle.graph.proofs.Lists.{in-left}
 use Rattle.graph.proofs.Sums.{both, chain-le, from-zero, neutral-left, tight-head, tight-tail, zero-start}
 
 module _ (g : OrderedGroup) (n : ℕ) (w : ℕ → ℕ → Option (g .carrier)) where
@@ -70,3 +72,22 @@ module _ (g : OrderedGroup) (n : ℕ) (w w′ : Weight g) (smaller : Smaller g w
   smaller-cycle [] s cycle = absurd cycle
   smaller-cycle (x ∷ []) s cycle = absurd cycle
   smaller-cycle (x ∷ y ∷ ms) s cycle = let r = smaller-walk x (y ∷ (ms ++ (x ∷ []))) x s (cycle .1) in (r .0, (cycle .0, r .1), r .2)
+
+module _ (g : OrderedGroup) (n : ℕ) (w : Weight g) where
+  -- the markers that a walk comes to are markers of the graph
+  walk-inside : (x : ℕ) (ms : List ℕ) (y : ℕ) (s : g .carrier) → Walk g n w x ms y s → (u : ℕ) → In u ms → u < n
+  walk-inside x [] y s walk u i = absurd i
+  walk-inside x (m ∷ ms) y s (c, r, edge, rest, e) u (inl k) = rw k (edge .1)
+  walk-inside x (m ∷ ms) y s (c, r, edge, rest, e) u (inr i) = walk-inside m ms y r rest u i
+
+  pub cycle-different : (ms : List ℕ) (s : g .carrier) → Cycle g n w ms s → Different ms
+  cycle-different [] s cycle = absurd cycle
+  cycle-different (x ∷ []) s cycle = absurd cycle
+  cycle-different (x ∷ y ∷ ms) s cycle = cycle .0
+
+  -- so are those of a cycle
+  pub cycle-inside : (ms : List ℕ) (s : g .carrier) → Cycle g n w ms s → (u : ℕ) → In u ms → u < n
+  cycle-inside [] s cycle u i = absurd i
+  cycle-inside (x ∷ []) s cycle u i = absurd cycle
+  cycle-inside (x ∷ y ∷ ms) s (d, (c, r, edge, rest, e)) u (inl k) = rw k (edge .0)
+  cycle-inside (x ∷ y ∷ ms) s (d, walk) u (inr i) = walk-inside x (y ∷ (ms ++ (x ∷ []))) x s walk u (in-left u (y ∷ ms) (x ∷ []) i)

@@ -1,5 +1,4 @@
 pub mod Answers
-pub mod Bounds
 pub mod Pins
 pub mod Scans
 pub mod Tables

@@ -1,7 +1,7 @@
 -- What the answers leave free. Assumes nothing.
 use mathlib.Core.Path.{_≡_, refl, sym, _∙_, ap, subst}
 use mathlib.Core.Bool.{Bool, not}
-use mathlib.Core.Logic.{_⊎_, inl, inr}
+use mathlib.Core.Logic.{inl, inr}
 use mathlib.Core.List.{List}
 use Prim.Native.Nat.{ℕ, zero, suc, _<_}
 use native.Mathlib.Omega.{arith}
@@ -27,7 +27,7 @@ use Rattle.law.specs.Telling.{Agree, Pinned, answer-code, moved-count}
 use Rattle.law.proofs.Tables.{certified, deepest-of, one-deepest, nothing-fits}
 
 -- tests that agree below n are passed as often
-tally-same : (n : ℕ) (f g : ℕ → Bool) → ((k : ℕ) → k < n → f k ≡ g k) → tally n f ≡ tally n g
+pub tally-same : (n : ℕ) (f g : ℕ → Bool) → ((k : ℕ) → k < n → f k ≡ g k) → tally n f ≡ tally n g
 tally-same zero f g h = refl
 tally-same (suc n) f g h = sum-of (h n (omega arith)) (tally-same n f g (λ k l. h k (wider k n l)))
   where
@@ -38,7 +38,7 @@ tally-same (suc n) f g h = sum-of (h n (omega arith)) (tally-same n f g (λ k l.
     sum-of e r = rw (e, r) refl
 
 module _ {M : Type 0} (μ : measure.Ghosts M) where
-  same-depths : (s : Standing) (d e : ℕ → Amount) (p q : ℕ → ℕ) → Table-of μ s d p → Table-of μ s e q → (k : ℕ) → k < s .count → d k ≡ e k
+  pub same-depths : (s : Standing) (d e : ℕ → Amount) (p q : ℕ → ℕ) → Table-of μ s d p → Table-of μ s e q → (k : ℕ) → k < s .count → d k ≡ e k
   same-depths s d e p q v w k h =
       μ .laws .faithful (d k) (e k) (v .sized k h) (w .sized k h)
       (one-deepest μ s k (μ .value (d k)) (μ .value (e k)) (deepest-of μ s d p v k h) (deepest-of μ s e q w k h))

@@ -1,17 +1,15 @@
 -- Looking for the first tie that is not admitted, start by start and end by end. Assumes nothing.
-use mathlib.Core.Path.{_≡_, refl, sym, subst}
-use mathlib.Core.Bool.{Bool, true, false, not}
+use mathlib.Core.Path.{_≡_, refl, sym, _∙_, subst}
+use mathlib.Core.Bool.{true, not}
 use mathlib.Core.Logic.{_⊎_, inl, inr}
-use mathlib.Core.List.{List, [], _∷_}
+use mathlib.Core.List.{[], _∷_}
 use Prim.Native.Nat.{ℕ, zero, suc, _+_, _<_}
 use native.Mathlib.Omega.{arith}
 use Rattle.std.specs.declared.option.Option.{Option}
 use Rattle.std.specs.declared.option.Option.the-variants.{Some, None}
-use Rattle.std.specs.Options.{isSome}
-use Rattle.std.proofs.shelf.Tests.{cases-eq, not-false, true≢false}
+use Rattle.std.proofs.shelf.Tests.{cases-eq, not-false}
 use Rattle.measure.specs.declared.Amount.{Amount}
 use Rattle.measure.specs.declared.Measure as measure
-use Rattle.law.specs.declared.call.Refusal.{Refusal}
 use Rattle.law.specs.declared.call.Refusal.the-variants.{BadTie}
 use Rattle.law.specs.Refusals.{first, lowest, bad-tie, first-bad-tie}
 use Rattle.law.proofs.Tellings.{first-none, when-none}
@@ -45,14 +43,15 @@ module _ {A : Type 0} (f : ℕ → Option A) where
       at before (inl s) = some-of (lowest n f) (f n) x (subst (λ z. lowest z f ≡ None) s h) (subst (λ z. f z ≡ Some x) s e)
       at before (inr ne) = first-of (lowest n f) (f n) x (before (below-last k n l ne))
 
-  -- the same for a search that has o for f k in hand: it stops with it, or goes on
-  pub lowest-stops : (n k : ℕ) (o : Option A) → k < n → lowest k f ≡ None → o ≡ f k → isSome o ≡ true → o ≡ lowest n f
-  lowest-stops n k None l h e s = absurd (true≢false (sym s))
-  lowest-stops n k (Some x) l h e s = sym (lowest-found n k x l h (sym e))
-
-  pub lowest-goes-on : (k : ℕ) (o : Option A) → lowest k f ≡ None → o ≡ f k → isSome o ≡ false → lowest (k + 1) f ≡ None
-  lowest-goes-on k None h e s = lowest-step k h (sym e)
-  lowest-goes-on k (Some x) h e s = absurd (true≢false s)
+  -- what is found is found somewhere
+  pub lowest-some : (n : ℕ) (x : A) → lowest n f ≡ Some x → (k : ℕ) × (f k ≡ Some x)
+  lowest-some zero x e = absurd (let z : _≡_ {A = ℕ} 0 1 = cc in omega arith)
+  lowest-some (suc n) x e = at (lowest n f) (f n) refl refl e (λ i. lowest-some n x i)
+    where
+      at : (o p : Option A) → lowest n f ≡ o → f n ≡ p → first (o ∷ p ∷ []) ≡ Some x → (lowest n f ≡ Some x → (k : ℕ) × (f k ≡ Some x)) → (k : ℕ) × (f k ≡ Some x)
+      at None None i j h before = absurd (let z : _≡_ {A = ℕ} 0 1 = cc in omega arith)
+      at None (Some y) i j h before = (n, j ∙ h)
+      at (Some y) p i j h before = before (i ∙ h)
 
   -- where none is found, there is none
   pub lowest-none : (n : ℕ) → lowest n f ≡ None → (k : ℕ) → k < n → f k ≡ None

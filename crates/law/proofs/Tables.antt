@@ -5,12 +5,12 @@ use Prim.Native.Nat.{ℕ, _<_}
 use Rattle.measure.specs.declared.Amount.{Amount}
 use Rattle.measure.specs.declared.Measure as measure
 use Rattle.measure.specs.Group.{Lt}
-use Rattle.graph.specs.Graph.{Cycle, Fits}
+use Rattle.graph.specs.Graph.{Cycle}
 use Rattle.graph.specs.Theorems.{Solved}
 use Rattle.graph.proofs.Trees.{certificate, certifiable}
 use Rattle.graph.proofs.Walks.{negative-cycle-refutes}
 use Rattle.law.specs.Standing.{Standing, bounds}
-use Rattle.law.specs.Calls.{Model, Table-of, Path-at, path}
+use Rattle.law.specs.Calls.{Table-of}
 use Rattle.law.specs.Law.{Deepest-at, Nothing-fits-at}
 
 module _ {M : Type 0} (μ : measure.Ghosts M) where

@@ -1,7 +1,7 @@
 -- Each call that is answered as it has to be keeps the log lawful. Assumes nothing.
 use mathlib.Core.Path.{_≡_, refl, sym, _∙_, ap, subst}
 use mathlib.Core.Bool.{Bool, true, false, cond, not, _&&_}
-use mathlib.Core.Logic.{_⊎_, inl, inr}
+use mathlib.Core.Logic.{inl, inr}
 use mathlib.Core.List.{List, [], _∷_, _++_}
 use Prim.Native.Nat.{ℕ, _<_}
 use native.Mathlib.Omega.{arith}
@@ -24,7 +24,7 @@ use Rattle.law.specs.declared.call.Refusal.the-variants.{NotOpen, UnknownMarke
 use Rattle.law.specs.Standing.{Standing, took}
 use Rattle.law.specs.Refusals.{is-new, on-trial, when, first, first-refusal}
 use Rattle.law.specs.Calls.{Model, path, kind, Table, Table-of, Keeps, Path-at, Outcome, Accepted, Contradicted, answer-of, buffer-after, over-front}
-use Rattle.law.specs.Law.{Log, accepted, after, Solves, Judged, LawfulEntry, Deepest-at, Nothing-fits-at, or-else, read-since, read-before}
+use Rattle.law.specs.Law.{Log, accepted, after, Can-contradict, Judged, LawfulEntry, Deepest-at, Nothing-fits-at, or-else, read-since, read-before}
 use Rattle.law.specs.Telling.{entry, Tells, Starts, Goes-on, Ran, Every-log-lawful}
 use Rattle.law.specs.Telling.Ran.{none, more}
 use Rattle.law.proofs.Tables.{certified, deepest-of, one-deepest, nothing-fits}
@@ -57,7 +57,7 @@ apart a b h e = absurd (true≢false (sym (eq-eqb (tag a) (tag b) (ap tag e)) �
 module _ {M : Type 0} (μ : measure.Ghosts M) where
   -- a refused call goes on with the log
   refused : (s : Standing) (log : Log) (m : Model) (c : Call) (r : Refusal) (b : List ℕ)
-      → (Solves c → first-refusal μ (m .standing) c ≡ None → Judged μ (took c (m .standing)) (Refused r))
+      → (Can-contradict c → first-refusal μ (m .standing) c ≡ None → Judged μ (took c (m .standing)) (Refused r))
       → Tells μ s log m → Tells μ s (entry c (Refused r) b ∷ log) m
   refused s log m c r b judged t = record {
     lawful = (subst (λ z. LawfulEntry μ z log (entry c (Refused r) b)) (t .standing) right, t .lawful);
@@ -153,7 +153,7 @@ module _ {M : Type 0} (μ : measure.Ghosts M) where
   tabled-is : (m m′ : Model) (s : Standing) → m′ .standing ≡ s → m′ .depth ≡ m .depth → m′ .parent ≡ m .parent → tabled m s (m′ .changes) ≡ m′
   tabled-is m m′ s p q r = λ i. record { standing = sym p i; depth = sym q i; parent = sym r i; changes = m′ .changes }
 
-  pub on-trial-old : (st : State) → on-trial st ≡ true → is-new st ≡ false
+  on-trial-old : (st : State) → on-trial st ≡ true → is-new st ≡ false
   on-trial-old state.New h = absurd (true≢false (sym h))
   on-trial-old state.Open h = refl
   on-trial-old (state.OnTrial a b before) h = refl

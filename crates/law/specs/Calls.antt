@@ -12,6 +12,7 @@ use Rattle.std.specs.declared.option.Option.the-variants.{Some, None}
 use Rattle.measure.specs.declared.Amount.{Amount}
 use Rattle.measure.specs.declared.Measure as measure
 use Rattle.measure.specs.Group.{Lt}
+pub use Rattle.graph.specs.Buffer.{over-front}
 use Rattle.graph.specs.Graph.{Cycle, PathTo}
 use Rattle.graph.specs.Tree.{path-to, ShortestPathTree}
 use Rattle.law.specs.declared.call.Answer.{Answer}
@@ -77,10 +78,6 @@ Closes (call.RollBack number) ms = ⊥
 Closes (call.Depth m) ms = ⊥
 Closes (call.Path m room) ms = ⊥
 
--- the list is put at the front of the buffer, and the rest is kept
-abbrev pub over-front : List ℕ → List ℕ → List ℕ
-over-front ms buffer = ms ++ drop (length ms) buffer
-
 -- what an accepted call leaves in its buffer
 abbrev pub buffer-after : Call → Model → List ℕ → List ℕ
 buffer-after (call.Open room) m b = b
@@ -121,6 +118,7 @@ module _ {M : Type 0} (μ : measure.Ghosts M) where
   pub record Table-of (s : Standing) (depth : ℕ → Amount) (parent : ℕ → ℕ) : Type 0 where
     pub some : 0 < s .count
     pub shortest : ShortestPathTree (μ .group) (s .count) (bounds μ s) (λ k. μ .value (depth k)) parent
+    -- so that amounts with one value are one amount
     pub sized : (k : ℕ) → k < s .count → μ .within 256 (depth k)
 
   -- the list is a path from the datum to k, and adds up to x

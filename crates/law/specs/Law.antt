@@ -39,15 +39,15 @@ after s [] = s
 after s (e ∷ log) = cond (accepted (e .answer)) (took (e .call) (after s log)) (after s log)
 
 -- the calls that can meet a contradiction
-abbrev pub Solves : Call → Type 0
-Solves (call.Open room) = Unit {0}
-Solves (call.Tie a b w room) = Unit {0}
-Solves (call.Untie a b) = ⊥
-Solves (call.Trial a b w room) = Unit {0}
-Solves (call.Commit number) = ⊥
-Solves (call.RollBack number) = ⊥
-Solves (call.Depth m) = ⊥
-Solves (call.Path m room) = ⊥
+abbrev pub Can-contradict : Call → Type 0
+Can-contradict (call.Open room) = Unit {0}
+Can-contradict (call.Tie a b w room) = Unit {0}
+Can-contradict (call.Untie a b) = ⊥
+Can-contradict (call.Trial a b w room) = Unit {0}
+Can-contradict (call.Commit number) = ⊥
+Can-contradict (call.RollBack number) = ⊥
+Can-contradict (call.Depth m) = ⊥
+Can-contradict (call.Path m room) = ⊥
 
 -- whether the call asks for the path of k
 abbrev pub asks-path : ℕ → Call → Bool
@@ -110,7 +110,7 @@ module _ {M : Type 0} (μ : measure.Ghosts M) where
   -- the law at one entry; s is what stood before it, and log what came before it
   pub record LawfulEntry (s : Standing) (log : Log) (e : Entry) : Type 0 where
     -- a tie, trial or opening that passes every earlier check
-    pub judged : Solves (e .call) → first-refusal μ s (e .call) ≡ None → Judged (took (e .call) s) (e .answer)
+    pub judged : Can-contradict (e .call) → first-refusal μ s (e .call) ≡ None → Judged (took (e .call) s) (e .answer)
     -- a depth that is read
     pub deepest : (k : ℕ) (x : Amount) (p : ℕ) → e .call ≡ call.Depth k → e .answer ≡ Row x p → Deepest-at s k (μ .value x)
     -- a path that is read

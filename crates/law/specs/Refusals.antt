@@ -32,6 +32,22 @@ code-of (Contradiction length) = 11
 code-of WrongToken = 12
 code-of (BadTie from to) = 13
 
+-- the length of the cycle that a contradiction leaves
+abbrev pub cycle-length : Refusal → Option ℕ
+cycle-length NotOpen = None
+cycle-length NotNew = None
+cycle-length TrialOut = None
+cycle-length UnknownMarker = None
+cycle-length SameMarker = None
+cycle-length ClosedMarker = None
+cycle-length BadAmount = None
+cycle-length ShortBuffer = None
+cycle-length PairEmpty = None
+cycle-length StoreFull = None
+cycle-length (Contradiction length) = Some length
+cycle-length WrongToken = None
+cycle-length (BadTie from to) = None
+
 abbrev pub is-new : State → Bool
 is-new state.New = true
 is-new state.Open = false

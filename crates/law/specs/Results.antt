@@ -2,9 +2,8 @@
 use Prim.Native.Nat.{ℕ}
 use Rattle.std.specs.declared.result.Result.{Result}
 use Rattle.std.specs.declared.result.Result.the-variants.{Ok, Err}
-use Rattle.measure.specs.declared.Amount.{Amount}
 use Rattle.law.specs.declared.call.Answer.{Answer}
-use Rattle.law.specs.declared.call.Answer.the-variants.{Refused, Opened, Changed, Row, Length}
+use Rattle.law.specs.declared.call.Answer.the-variants.{Refused, Opened, Changed, Length}
 use Rattle.law.specs.declared.call.Refusal.{Refusal}
 
 abbrev pub opened : Result ℕ Refusal → Answer
@@ -14,10 +13,6 @@ opened (Err why) = Refused why
 abbrev pub changed : Result (ℕ × ℕ) Refusal → Answer
 changed (Ok counts) = Changed (counts .0) (counts .1)
 changed (Err why) = Refused why
-
-abbrev pub read-row : Result (Amount × ℕ) Refusal → Answer
-read-row (Ok row) = Row (row .0) (row .1)
-read-row (Err why) = Refused why
 
 abbrev pub read-path : Result ℕ Refusal → Answer
 read-path (Ok length) = Length length

@@ -1,6 +1,6 @@
 -- A log that tells of a solver: it is lawful, and what it says of the solver is so. Assumes nothing.
 use mathlib.Core.Path.{_≡_}
-use mathlib.Core.Bool.{Bool, false}
+use mathlib.Core.Bool.{false}
 use mathlib.Core.List.{List, [], _∷_}
 use Prim.Native.Nat.{ℕ, _<_}
 use Rattle.std.specs.declared.option.Option.the-variants.{Some}

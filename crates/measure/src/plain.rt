@@ -33,7 +33,10 @@ pub impl Measure for PlainDepth as PlainDepthMeasure {
     }
 
     fn admitted(&self, amount: Amount) -> bool {
-        -20_000_000 <= amount.mm && amount.mm <= 20_000_000 && 0 <= amount.marks && amount.marks <= 0
+        -20_000_000 <= amount.mm
+            && amount.mm <= 20_000_000
+            && 0 <= amount.marks
+            && amount.marks <= 0
     }
 
     fn sum(&self, a: Amount, b: Amount) -> Amount {

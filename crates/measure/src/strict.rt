@@ -34,7 +34,10 @@ pub impl Measure for StrictDepth as StrictDepthMeasure {
     }
 
     fn admitted(&self, amount: Amount) -> bool {
-        -20_000_000 <= amount.mm && amount.mm <= 20_000_000 && -1 <= amount.marks && amount.marks <= 0
+        -20_000_000 <= amount.mm
+            && amount.mm <= 20_000_000
+            && -1 <= amount.marks
+            && amount.marks <= 0
     }
 
     fn sum(&self, a: Amount, b: Amount) -> Amount {

@@ -1,5 +1,3 @@
-pub mod Checks
-pub mod Lowest
 pub mod Readings
 pub mod Opens
 pub mod Starts

@@ -21,7 +21,7 @@ use Rattle.graph.proofs.Walks.{Smaller, smaller-cycle}
 use Rattle.table.specs.Climb.{deep, FirstClimb, up}
 use Rattle.table.specs.declared.table.DepthTable.{DepthTable}
 use Rattle.table.proofs.Ways.{length-down}
-use Rattle.update.specs.Lowering.{NegativeCycle, Standing}
+use Rattle.update.specs.Lowering.{NegativeCycle, SolvedBefore}
 use Rattle.update.proofs.Cycles.{cycle-first}
 use Rattle.law.specs.Calls.{over-front}
 use Rattle.law.specs.Standing.{bound-at, bounds-of, capped, Ties}
@@ -81,7 +81,7 @@ module _ (m : StoreMeaning) (law : Lawful m) where
 
       -- a pair with a tie: its bound falls
       pub insert-some : (c : Amount) → bound-at μ total (k / 64) (k % 64) (in-scope (m .tie) (First (k + 1)) (k / 64) (k % 64)) ≡ Some c
-          → Standing (μ .group) (table .n) (bounds-of μ total (in-scope (m .tie) (First (k + 1)))) (k / 64) (k % 64) (μ .value c) (λ z. μ .value (deep (table .rows) z)) (up (table .rows))
+          → SolvedBefore (μ .group) (table .n) (bounds-of μ total (in-scope (m .tie) (First (k + 1)))) (k / 64) (k % 64) (μ .value c) (λ z. μ .value (deep (table .rows) z)) (up (table .rows))
       insert-some c e = record {
         was = bounds-of μ total (in-scope (m .tie) (First k));
         solved = suits .solved;

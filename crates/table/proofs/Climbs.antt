@@ -4,6 +4,7 @@ use mathlib.Core.Logic.{inl, inr}
 use mathlib.Core.List.{List, [], _∷_, _++_}
 use Prim.Native.Nat.{ℕ, zero, suc, _+_, _-_, _<_, _≤_}
 use native.Mathlib.Omega.{arith}
+use lib.ListN.{length, length-append}
 use Rattle.std.proofs.shelf.Tests.{cases-lt}
 use Rattle.graph.specs.Tree.{climb, climbed, way}
 use Rattle.graph.proofs.Trees.{Height, height-of, climb-datum}
@@ -15,12 +16,6 @@ climb-add f (suc j) k m = let e : suc j + k ≡ suc (j + k) = omega arith in ap 
 
 pub climb-last : (f : ℕ → ℕ) (k m : ℕ) → climb f (k + 1) m ≡ f (climb f k m)
 climb-last f k m = climb-add f k 1 m
-
--- a climb that goes on past n - 1 steps stays where it is
-pub past : (f : ℕ → ℕ) (n k m : ℕ) → f 0 ≡ 0 → climb f (n - 1) m ≡ 0 → n ≤ k → climb f k m ≡ climb f (n - 1) m
-past f n k m root top h =
-    let split : k ≡ (n - 1) + (k - (n - 1)) = omega arith in
-    ap (λ i. climb f i m) split ∙ climb-add f (n - 1) (k - (n - 1)) m ∙ ap (climb f (k - (n - 1))) top ∙ climb-datum f root (k - (n - 1)) ∙ sym top
 
 -- from the parent on, one step fewer
 first-next : (p : ℕ → ℕ) (k a b : ℕ) → FirstClimb p (suc k) a b → FirstClimb p k (p a) b
@@ -67,3 +62,33 @@ climbed-way p (suc j) (suc k) (suc m) f h = ap (λ l. l ++ (suc m ∷ [])) (clim
   where
     lower : (j k : ℕ) → suc k ≤ suc j → k ≤ j
     lower j k h = omega arith
+
+-- a step to the parent makes the path shorter
+longer : (p : ℕ → ℕ) (k m : ℕ) → climb p k m ≡ 0 → climbed p (suc k) m ≡ climbed p k m
+longer p k m e =
+    let h = height-of p k m e in
+    let f = height-first p (h .0) m (h .2) in
+    let l : h .0 ≤ k = h .1 in
+    climbed-way p (suc k) (h .0) m f (omega arith) ∙ sym (climbed-way p k (h .0) m f l)
+
+pub parent-shorter : (p : ℕ → ℕ) (k m : ℕ) → ¬ (m ≡ 0) → climb p k m ≡ 0 → length (climbed p k (p m)) < length (climbed p k m)
+parent-shorter p zero m ne e = absurd (ne e)
+parent-shorter p (suc k) zero ne e = absurd (ne refl)
+parent-shorter p (suc k) (suc m) ne e = less (climbed p k (p (suc m))) (climbed p (suc k) (p (suc m))) (longer p k (p (suc m)) e)
+  where
+    less : (xs ys : List ℕ) → ys ≡ xs → length ys < length (xs ++ (suc m ∷ []))
+    less xs ys o = rw (o, length-append) (omega arith)
+
+-- some number of climbs leads from a to b
+abbrev pub Meets : (ℕ → ℕ) → ℕ → ℕ → Type 0
+Meets p a b = (k : ℕ) × (climb p k a ≡ b)
+
+pub meets-down : (p : ℕ → ℕ) (a b : ℕ) → Meets p (p a) b → Meets p a b
+meets-down p a b (k, e) = (suc k, e)
+
+pub meets-up : (p : ℕ → ℕ) (a b : ℕ) → ¬ (a ≡ b) → Meets p a b → Meets p (p a) b
+meets-up p a b ne (zero, e) = absurd (ne e)
+meets-up p a b ne (suc k, e) = (k, e)
+
+pub datum-meets : (p : ℕ → ℕ) → p 0 ≡ 0 → (a b : ℕ) → a ≡ 0 → Meets p a b → b ≡ 0
+datum-meets p root a b z (k, e) = sym e ∙ ap (climb p k) z ∙ climb-datum p root k

@@ -1,13 +1,11 @@
 -- Parents of rows in which every marker hangs from the datum. Assumes nothing.
-use mathlib.Core.Path.{_≡_, refl, sym, ap, _∙_}
-use mathlib.Core.List.{List, _∷_}
+use mathlib.Core.Path.{_≡_, refl, ap, _∙_}
 use Prim.Native.Nat.{ℕ, zero, suc, _-_, _<_}
 use native.Mathlib.Omega.{arith}
 use lib.ListN.{set, replicate}
 use Rattle.graph.specs.Tree.{climb}
 use Rattle.graph.proofs.Trees.{climb-datum}
 use Rattle.measure.specs.declared.Amount.{Amount}
-use Rattle.table.specs.declared.row.Row.{Row}
 use Rattle.table.specs.Climb.{up}
 
 up-replicate : (d : Amount) (k x : ℕ) → up (replicate k (record { depth = d; parent = 0 })) x ≡ 0

@@ -5,6 +5,7 @@ use Prim.Native.Nat.{ℕ, _<_, _≤_}
 use lib.IntN.{pos}
 use lib.ListN.{getD, length, drop}
 use Rattle.measure.specs.declared.Amount.{Amount}
+pub use Rattle.graph.specs.Buffer.{over-front}
 use Rattle.graph.specs.Tree.{climb}
 use Rattle.table.specs.declared.row.Row.{Row}
 
@@ -30,7 +31,3 @@ pub record Leads (p : ℕ → ℕ) (a b room : ℕ) : Type 0 where
   pub inside : (i : ℕ) → i ≤ steps → climb p i a < 64
   pub short : steps < 64
   pub fits : steps < room
-
--- a buffer with xs written over its front
-abbrev pub over-front : List ℕ → List ℕ → List ℕ
-over-front xs out = xs ++ drop (length xs) out

@@ -1,4 +1,4 @@
-//! The table of depths and parents, and the paths that it holds.
+//! The table of depths and parents, and its paths.
 
 pub mod climb;
 pub mod row;

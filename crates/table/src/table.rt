@@ -1,12 +1,11 @@
 ghost use mathlib.Core.Path.{_≡_};
-ghost use mathlib.Core.List.{_∷_};
 ghost use Prim.Native.Nat.{ℕ, _-_, _<_, _≤_};
 ghost use lib.ListN.{length, getD, set, replicate};
 ghost use Rattle.std.specs.Orderings.{When};
 ghost use Rattle.graph.specs.Tree.{climb, path-to, Tree};
 ghost use Rattle.table.specs.Climb.{up, deep, no-row, over-front};
-use crate::row::Row;
 use crate::climb::trail;
+use crate::row::Row;
 use measure::Amount;
 
 /// A row for each marker; the parents lead from every marker to the datum within n − 1 steps.
@@ -30,8 +29,11 @@ impl DepthTable {
         ensures rows { λ r. ⌜ r .rows ≡ set (replicate 64 (record { depth = depth; parent = 0 })) 0 (record { depth = datum; parent = 0 }) ⌝ }
     {
         let mut rows = [Row { depth, parent: 0 }; 64];
-        rows[0] = Row { depth: datum, parent: 0 };
-        DepthTable { n, rows }
+        rows[0] = Row {
+            depth: datum,
+            parent: 0,
+        };
+        DepthTable::of(n, rows)
     }
 
     /// The table of these rows.
@@ -52,12 +54,14 @@ impl DepthTable {
         self.n
     }
 
+    /// All rows, those past n included.
     pub fn rows(&self) -> [Row; 64]
         ensures { λ r. ⌜ r ≡ now (self .entry) .rows ⌝ }
     {
-        self.rows
+        return self.rows;
     }
 
+    /// The row of marker `m`.
     pub fn row(&self, m: u16) -> Row
         requires { ⌜ m < now self .n ⌝ }
         ensures { λ r. ⌜ r ≡ getD (now (self .entry) .rows) m no-row ⌝ }
@@ -65,19 +69,21 @@ impl DepthTable {
         self.rows[m as usize]
     }
 
+    /// The depth of marker `m`.
     pub fn depth(&self, m: u16) -> Amount
         requires { ⌜ m < now self .n ⌝ }
         ensures { λ r. ⌜ r ≡ deep (now (self .entry) .rows) m ⌝ }
     {
-        self.rows[m as usize].depth
+        self.row(m).depth
     }
 
+    /// The parent of marker `m`; the datum is its own.
     pub fn parent(&self, m: u16) -> u16
         requires { ⌜ m < now self .n ⌝ }
         ensures is { λ r. ⌜ r ≡ up (now (self .entry) .rows) m ⌝ }
         ensures within { λ r. ⌜ r < now (self .entry) .n ⌝ }
     {
-        self.rows[m as usize].parent
+        self.row(m).parent
     }
 
     /// Whether the climb from `from` passes `m`.
@@ -86,13 +92,13 @@ impl DepthTable {
         ensures { λ r. ⌜ When r ((k : ℕ) × (climb (up (now (self .entry) .rows)) k from ≡ m)) ((k : ℕ) → climb (up (now (self .entry) .rows)) k from ≡ m → ⊥) ⌝ }
     {
         let mut at = from;
-        for _step in 0..self.n {
-            if at == m {
-                return true;
+        while at != m {
+            if at == 0 {
+                return false;
             }
             at = self.parent(at);
         }
-        false
+        true
     }
 
     /// Writes the path from the datum to `m` over the front of `out`, and answers its length.

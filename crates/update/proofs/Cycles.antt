@@ -1,14 +1,15 @@
 -- The cycle that a contradiction leaves, read along the parents. Assumes nothing.
 use mathlib.Core.Path.{_≡_, refl, sym, _∙_, ap, subst}
-use mathlib.Core.Logic.{_⊎_, inl, inr, ⊎-elim}
+use mathlib.Core.Logic.{inl, inr}
 use mathlib.Core.List.{List, [], _∷_, _++_}
 use Prim.Native.Nat.{ℕ, zero, suc, _+_, _≤_, _<_}
 use native.Mathlib.Omega.{arith}
 use lib.ListN.{length}
 use Rattle.std.proofs.shelf.Tests.{cases-lt}
 use Rattle.measure.specs.Group.{OrderedGroup}
-use Rattle.graph.specs.Graph.{Cycle, Different, In, Walk, Weight}
+use Rattle.graph.specs.Graph.{Cycle, Different, In, Weight}
 use Rattle.graph.specs.Tree.{climb, way}
+use Rattle.graph.proofs.Walks.{cycle-different, cycle-inside}
 use Rattle.graph.proofs.Lists.{in-left, pigeonhole}
 use Rattle.table.specs.Climb.{FirstClimb, Leads}
 use Rattle.table.proofs.Climbs.{climb-add}
@@ -65,11 +66,6 @@ way-add p (suc j) i m =
     let e : suc j + i ≡ suc (j + i) = omega arith in
     ap (λ k. way p k m) e ∙ ap (λ l. l ++ (m ∷ [])) (way-add p j i (p m)) ∙ append-assoc (way p i (climb p j (p m))) (way p j (p m)) (m ∷ [])
 
-cycle-different : (g : OrderedGroup) (n : ℕ) (w : Weight g) (ms : List ℕ) (s : g .carrier) → Cycle g n w ms s → Different ms
-cycle-different g n w [] s c = absurd c
-cycle-different g n w (x ∷ []) s c = absurd c
-cycle-different g n w (x ∷ y ∷ ms) s c = c .0
-
 -- with z hung on y the way from b to y and that from z to a are one
 pub closed : (g : OrderedGroup) (n : ℕ) (w : Weight g) (q q′ : ℕ → ℕ) (a b y z down up : ℕ) (s : g .carrier)
     → q′ z ≡ y → ((u : ℕ) → ¬ (u ≡ z) → q′ u ≡ q u) → climb q down y ≡ b → climb q up a ≡ z
@@ -109,17 +105,6 @@ closed g n w q q′ a b y z down up s here other below above cycle negative = re
         ∙ ap (λ l. (way q down y ++ (z ∷ [])) ++ l) (upper .0)
         ∙ append-assoc (way q down y) (z ∷ []) (way q up a)
 
-walk-below : (g : OrderedGroup) (n : ℕ) (w : Weight g) (x : ℕ) (ms : List ℕ) (y : ℕ) (s : g .carrier) → Walk g n w x ms y s → (m : ℕ) → In m ms → m < n
-walk-below g n w x [] y s walk m i = absurd i
-walk-below g n w x (u ∷ ms) y s (c, r, edge, rest, e) m (inl k) = subst (λ v. v < n) (sym k) (edge .1)
-walk-below g n w x (u ∷ ms) y s (c, r, edge, rest, e) m (inr i) = walk-below g n w u ms y r rest m i
-
-cycle-below : (g : OrderedGroup) (n : ℕ) (w : Weight g) (ms : List ℕ) (s : g .carrier) → Cycle g n w ms s → (m : ℕ) → In m ms → m < n
-cycle-below g n w [] s c m i = absurd c
-cycle-below g n w (x ∷ []) s c m i = absurd c
-cycle-below g n w (x ∷ y ∷ ms) s (d, walk) m (inl e) = walk-below g n w x (y ∷ (ms ++ (x ∷ []))) x s walk m (inr (in-right m ms (x ∷ []) (inl e)))
-cycle-below g n w (x ∷ y ∷ ms) s (d, walk) m (inr i) = walk-below g n w x (y ∷ (ms ++ (x ∷ []))) x s walk m (in-left m (y ∷ ms) (x ∷ []) i)
-
 module _ (g : OrderedGroup) (n : ℕ) (w : Weight g) (q : ℕ → ℕ) (a b : ℕ) (c : NegativeCycle g n w q a b) where
   -- the climb of a cycle is the first to come to b
   pub cycle-first : FirstClimb q (c .up) a b
@@ -133,7 +118,7 @@ module _ (g : OrderedGroup) (n : ℕ) (w : Weight g) (q : ℕ → ℕ) (a b : �
   cycle-leads few room h = record { steps = c .up; first = cycle-first; inside = inside; short = omega (arith, count); fits = omega (arith, count) }
     where
       below : (m : ℕ) → In m (b ∷ way q (c .up) a) → m < n
-      below = cycle-below g n w (b ∷ way q (c .up) a) (c .sum) (c .cycle)
+      below = cycle-inside g n w (b ∷ way q (c .up) a) (c .sum) (c .cycle)
 
       count : c .up + 1 ≤ n
       count =

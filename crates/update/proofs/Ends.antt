@@ -1,15 +1,13 @@
 -- Where an edge falls: nothing changes, or it closes a cycle with the old parents. Assumes nothing.
-use mathlib.Core.Path.{_≡_, refl, sym, _∙_, ap, subst}
-use mathlib.Core.Bool.{Bool, true, false}
-use mathlib.Core.Logic.{_⊎_, inl, inr, ⊎-elim}
+use mathlib.Core.Path.{_≡_, _∙_, subst}
+use mathlib.Core.Logic.{_⊎_, inl, inr}
 use mathlib.Core.List.{List, [], _∷_, _++_}
-use Prim.Native.Nat.{ℕ, zero, suc, _+_, _-_, _≤_, _<_}
-use native.Mathlib.Omega.{arith}
+use Prim.Native.Nat.{ℕ, zero, suc, _+_, _-_, _<_}
 use Rattle.measure.specs.Group.{OrderedGroup}
-use Rattle.graph.specs.Graph.{Weight, Different, Edge, Fits, Walk, Cycle}
-use Rattle.graph.specs.Tree.{climb, way, Tree, Tight}
+use Rattle.graph.specs.Graph.{Weight, Different, Edge, Walk, Cycle}
+use Rattle.graph.specs.Tree.{climb, way}
 use Rattle.graph.specs.Theorems.{Solved}
-use Rattle.graph.proofs.Relabel.{Lowered}
+use Rattle.graph.specs.Change.{Lowered}
 use Rattle.graph.proofs.Sums.{both, weigh, left-comm, tight-again}
 use Rattle.graph.proofs.Walks.{walk-push}
 use Rattle.graph.proofs.Trees.{Height, height-of, way-different}

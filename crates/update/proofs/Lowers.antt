@@ -2,22 +2,22 @@
 use mathlib.Core.Path.{_≡_, refl, sym, _∙_, ap, subst}
 use mathlib.Core.Bool.{Bool, true, false}
 use mathlib.Core.Logic.{_⊎_, inl, inr, ⊎-elim}
-use mathlib.Core.List.{List, [], _∷_, _++_}
-use Prim.Native.Nat.{ℕ, zero, suc, _+_, _-_, _≤_, _<_}
+use mathlib.Core.List.{_∷_, _++_}
+use Prim.Native.Nat.{ℕ, suc, _+_, _-_, _<_}
 use native.Mathlib.Decide.{ℕ-discrete}
 use native.Mathlib.Omega.{arith}
 use Rattle.measure.specs.Group.{OrderedGroup}
 use Rattle.graph.specs.Graph.{Weight, Cycle, Edge, Fits}
 use Rattle.graph.specs.Tree.{climb, way, Tree, Tight}
 use Rattle.graph.specs.Theorems.{Solved}
-use Rattle.graph.proofs.Relabel.{Lowered, Relabel, Below, Picked, Settles, Relaxed}
+use Rattle.graph.proofs.Relabel.{Picked, Settles, Relaxed}
 use Rattle.graph.proofs.Regrow.{Turned, Grown, Regrafted}
 use Rattle.graph.proofs.Sums.{le-of-eq, both, weigh, left-comm}
 use Rattle.graph.proofs.Relabels.{not-both, settles-one, climb-inside}
 use Rattle.graph.proofs.Regrows.{grows-one, regrown}
 use Rattle.graph.proofs.Clashes.{clash}
-use Rattle.update.specs.Relaxing.{Taken, Relaxing, Clashing}
-use Rattle.update.specs.Lowering.{Ancestors, Falls, Growing, NegativeCycle}
+use Rattle.update.specs.Relaxing.{Relaxing, Clashing}
+use Rattle.update.specs.Lowering.{Falls, Growing, NegativeCycle}
 use Rattle.update.proofs.Picks.{turned}
 use Rattle.update.proofs.Cycles.{way-same, closed}
 
@@ -74,7 +74,7 @@ module _ (g : OrderedGroup) (n : ℕ) (w w′ : Weight g) (a b : ℕ) (c : g .ca
       born z h (no k) = Rattle.graph.proofs.Regrow.Born.same (same z h k .1) (same z h k .0)
 
   at-a : (X : ℕ → Bool) (L : ℕ → g .carrier) (q : ℕ → ℕ) → Growing g n w w′ a b c d p U X L q → g .le (d a) (L a)
-  at-a X L q grow = le-of-eq g (sym (grow .stays a (f .a-inside) (f .held .all 0) .0))
+  at-a X L q grow = le-of-eq g (sym (grow .stays a (f .a-inside) (f .above .all 0) .0))
 
   -- the end
   pub grow-end : (X : ℕ → Bool) (L : ℕ → g .carrier) (q : ℕ → ℕ) → Growing g n w w′ a b c d p U X L q → ((z : ℕ) → z < n → X z ≡ false → g .le (d z) (L z)) → Solved g n w′ L q
@@ -84,7 +84,7 @@ module _ (g : OrderedGroup) (n : ℕ) (w w′ : Weight g) (a b : ℕ) (c : g .ca
       positive = let h : a < n = f .a-inside in omega arith
 
       root : U 0 ≡ true
-      root = sym (ap U (f .tree .climbs a (f .a-inside))) ∙ f .held .all (n - 1)
+      root = sym (ap U (f .tree .climbs a (f .a-inside))) ∙ f .above .all (n - 1)
 
       r : Fits g n w′ L × Tree n q × Tight g n w′ L q
       r = regrown g n w w′ a b c d p (grow .turns) X L q (grow .turn) record {
@@ -154,7 +154,7 @@ module _ (g : OrderedGroup) (n : ℕ) (w w′ : Weight g) (a b : ℕ) (c : g .ca
 
     -- z hangs on y now, and the parents lead from a past z to b
     pub grow-clash : (z : ℕ) → Clashing g n w′ X′ U L q y z → (q″ : ℕ → ℕ) → q″ z ≡ y → ((u : ℕ) → ¬ (u ≡ z) → q″ u ≡ q′ u) → NegativeCycle g n w′ q″ a b
-    grow-clash z k q″ here other = at (f .held .only z (k .held))
+    grow-clash z k q″ here other = at (f .above .only z (k .fixed))
       where
         at : (j : ℕ) × (climb p j a ≡ z) × ((i : ℕ) → i < j → 0 < climb p i a) → NegativeCycle g n w′ q″ a b
         at (j, e, up) =
@@ -165,13 +165,13 @@ module _ (g : OrderedGroup) (n : ℕ) (w w′ : Weight g) (a b : ℕ) (c : g .ca
             inside i = climb-inside n p (f .tree .inside) i a (f .a-inside)
 
             ways : (way q′ j a ≡ way p j a) × (climb q′ j a ≡ climb p j a)
-            ways = way-same p q′ j a (λ i l. stays (climb p i a) (inside i) (f .held .all i) .1)
+            ways = way-same p q′ j a (λ i l. stays (climb p i a) (inside i) (f .above .all i) .1)
 
             lists : (climb p j a ∷ way p j a) ≡ (z ∷ way q′ j a)
             lists = rw (e, ways .0) refl
 
             same : L z ≡ d (climb p j a)
-            same = grow .stays z (k .edge .1) (k .held) .0 ∙ ap d (sym e)
+            same = grow .stays z (k .edge .1) (k .fixed) .0 ∙ ap d (sym e)
 
             falls : ¬ g .le (d (climb p j a)) (g .plus (L′ y) (k .amount))
             falls h = k .falls (rw (same, ← kept y (sets .at)) h)
@@ -180,4 +180,4 @@ module _ (g : OrderedGroup) (n : ℕ) (w w′ : Weight g) (a b : ℕ) (c : g .ca
             r =
                 clash g n w w′ a b c d p (suc (grow .turns)) X′ L′ q′ (turn-next (grow .turns) y (grow .turn)) y (k .amount) j
                 (f .low) (f .a-inside) (f .b-inside) (f .fits) (f .tree) (f .tight) grown (sets .at) (λ h. fell (rw (kept y (sets .at)) at h))
-                (rw e (edge-was z (k .amount) (k .edge))) falls up (λ i l. le-of-eq g (sym (stays (climb p i a) (inside i) (f .held .all i) .0)))
+                (rw e (edge-was z (k .amount) (k .edge))) falls up (λ i l. le-of-eq g (sym (stays (climb p i a) (inside i) (f .above .all i) .0)))

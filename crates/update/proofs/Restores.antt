@@ -2,42 +2,24 @@
 use mathlib.Core.Path.{_≡_, refl, sym, _∙_, ap, subst}
 use mathlib.Core.Logic.{_⊎_, inl, inr}
 use mathlib.Core.List.{List, [], _∷_, _++_}
-use Prim.Native.Nat.{ℕ, zero, suc, _+_, _-_, _≤_, _<_}
+use Prim.Native.Nat.{ℕ, zero, suc, _+_, _-_, _<_}
 use native.Mathlib.Decide.{ℕ-discrete}
 use native.Mathlib.Omega.{arith}
-use lib.ListN.{length, length-append}
 use Rattle.std.specs.declared.option.Option.the-variants.{Some}
 use Rattle.measure.specs.Group.{OrderedGroup}
 use Rattle.measure.specs.declared.Amount.{Amount}
 use Rattle.measure.specs.declared.Measure as measure
 use Rattle.graph.specs.declared.Graph as graph
-use Rattle.graph.specs.Graph.{Edge, PathTo, Weight}
+use Rattle.graph.specs.Graph.{PathTo, Weight}
 use Rattle.graph.specs.Tree.{climb, climbed, path-to, Tree}
 use Rattle.graph.specs.Theorems.{Solved, TightWalk}
 use Rattle.graph.specs.Weights.{valued, weights}
-use Rattle.graph.proofs.Trees.{climb-datum, height-of, short-climbs}
+use Rattle.graph.proofs.Trees.{climb-datum, short-climbs}
+use Rattle.graph.proofs.Valued.{one-value}
 use Rattle.graph.proofs.Walks.{tight-prefixes}
 use Rattle.table.specs.declared.row.Row.{Row}
-use Rattle.table.proofs.Climbs.{climbed-way, height-first}
 use Rattle.update.specs.Reading.{depth}
 use Rattle.update.specs.Restoring.{TightEdge, Stands}
-use Rattle.update.proofs.Turns.{one-value}
-
--- a step to the parent makes the path shorter
-longer : (p : ℕ → ℕ) (k m : ℕ) → climb p k m ≡ 0 → climbed p (suc k) m ≡ climbed p k m
-longer p k m e =
-    let h = height-of p k m e in
-    let f = height-first p (h .0) m (h .2) in
-    let l : h .0 ≤ k = h .1 in
-    climbed-way p (suc k) (h .0) m f (omega arith) ∙ sym (climbed-way p k (h .0) m f l)
-
-pub parent-shorter : (p : ℕ → ℕ) (k m : ℕ) → ¬ (m ≡ 0) → climb p k m ≡ 0 → length (climbed p k (p m)) < length (climbed p k m)
-parent-shorter p zero m ne e = absurd (ne e)
-parent-shorter p (suc k) zero ne e = absurd (ne refl)
-parent-shorter p (suc k) (suc m) ne e = less (climbed p k (p (suc m))) (climbed p (suc k) (p (suc m))) (longer p k (p (suc m)) e)
-  where
-    less : (xs ys : List ℕ) → ys ≡ xs → length ys < length (xs ++ (suc m ∷ []))
-    less xs ys o = rw (o, length-append) (omega arith)
 
 -- the last marker of a walk from x
 end-of : ℕ → List ℕ → ℕ

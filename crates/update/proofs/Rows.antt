@@ -6,7 +6,6 @@ use Prim.Native.Nat.{ℕ, zero, suc, _<_}
 use native.Mathlib.Decide.{ℕ-discrete}
 use lib.ListN.{length, getD, set, replicate}
 use lib.Seq.{getD-set-same, getD-set-other}
-use Rattle.measure.specs.declared.Amount.{Amount}
 use Rattle.graph.proofs.Relabel.{Settles}
 use Rattle.table.specs.declared.row.Row.{Row}
 use Rattle.table.specs.Climb.{deep, no-row, up as parents-of}

@@ -1,12 +1,10 @@
 -- One turn of the loop that settles the markers that have fallen. Assumes nothing.
 use mathlib.Core.Path.{_≡_, refl, sym, _∙_, ap, subst}
-use mathlib.Core.Bool.{Bool, true, false, true≢false}
+use mathlib.Core.Bool.{Bool, true, true≢false}
 use mathlib.Core.List.{List}
 use Prim.Native.Nat.{ℕ, suc, _+_, _-_, _≤_, _<_}
 use native.Mathlib.Omega.{arith}
 use lib.ListN.{length, set}
-use Rattle.std.specs.declared.option.Option.{Option}
-use Rattle.std.specs.declared.option.Option.the-variants.{None, Some}
 use Rattle.measure.specs.declared.Amount.{Amount}
 use Rattle.measure.specs.declared.Measure as measure
 use Rattle.measure.proofs.Within.{wider-to}
@@ -20,7 +18,6 @@ use Rattle.graph.specs.declared.Graph as graph
 use Rattle.update.specs.declared.work.Work.{Work}
 use Rattle.update.specs.Reading.{Deep, depth, flag}
 use Rattle.update.specs.Relaxing.{Relaxing, Clashing}
-use Rattle.update.specs.Nearest.{Best}
 use Rattle.update.specs.Lowering.{Falls, Growing, NegativeCycle, settled}
 use Rattle.update.proofs.Rows.{settles-set, up-same, up-other}
 use Rattle.update.proofs.Counts.{settled-at-most, settled-one}
@@ -38,14 +35,14 @@ module _ {X Y : Type 0} (s : graph.Ghosts X) (m : measure.Ghosts Y) (x : X) (n :
   abbrev pub Room : Work → Type 0
   Room now = Deep m n (64 + settled (flag (now .done)) n) (now .rows)
 
-  module _ (wider : (k : ℕ) (a : Amount) → m .within k a → m .within (k + 1) a) (few : n ≤ 64) where
+  module _ (few : n ≤ 64) where
     pub room-to : (now : Work) → Room now → (k : ℕ) → 128 ≤ k → Deep m n k (now .rows)
     room-to now room k h z l =
         let t : settled (flag (now .done)) n ≤ n = settled-at-most (flag (now .done)) n in
-        wider-to wider (64 + settled (flag (now .done)) n) k _ (omega arith) (room z l)
+        wider-to (m .laws .wider) (64 + settled (flag (now .done)) n) k _ (omega arith) (room z l)
 
     pub deep-to : Deep m n 63 rows → (k : ℕ) → 63 ≤ k → Deep m n k rows
-    deep-to deep k h z l = wider-to wider 63 k _ h (deep z l)
+    deep-to deep k h z l = wider-to (m .laws .wider) 63 k _ h (deep z l)
 
     -- the end
     pub solved-all : (start now : Work) → Grows start now → ((z : ℕ) → z < n → flag (now .done) z ≡ true)
@@ -84,7 +81,7 @@ module _ {X Y : Type 0} (s : graph.Ghosts X) (m : measure.Ghosts Y) (x : X) (n :
           let t : settled (flag (now .done)) n ≤ n = settled-at-most (flag (now .done)) n in
           let e : 64 + settled (flag (now .done)) n + 1 ≡ 64 + settled (flag (next .done)) n = let q : settled (flag (next .done)) n ≡ suc (settled (flag (now .done)) n) = count in omega arith in
           subst (λ k. m .within k (deep (next .rows) z)) e
-          (sizes (64 + settled (flag (now .done)) n) (omega arith) (room y (pick .inside)) (λ u l. wider _ _ (room u (subst (λ k. u < k) (sym same) l))) z (subst (λ k. z < k) same h))
+          (sizes (64 + settled (flag (now .done)) n) (omega arith) (room y (pick .inside)) (λ u l. m .laws .wider _ _ (room u (subst (λ k. u < k) (sym same) l))) z (subst (λ k. z < k) same h))
 
       Rel : ℕ → ℕ → Type 0
       Rel k i = Relaxing (m .group) k (weights s m x) (flag (set (now .done) y true)) (flag U) (depth m (now .rows)) (parents-of (now .rows)) y i (depth m (next .rows)) (parents-of (next .rows))

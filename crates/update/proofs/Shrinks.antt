@@ -1,31 +1,22 @@
 -- The depths of a shortest-path tree are no larger than the number of its edges. Assumes nothing.
-use mathlib.Core.Path.{_≡_, refl, sym, _∙_, ap, subst}
+use mathlib.Core.Path.{_≡_, sym, _∙_, ap, subst}
 use mathlib.Core.List.{List}
-use mathlib.Core.Option as plain
 use Prim.Native.Nat.{ℕ, zero, suc, _+_, _-_, _≤_, _<_}
 use native.Mathlib.Decide.{ℕ-discrete}
 use native.Mathlib.Omega.{arith}
-use Rattle.std.specs.declared.option.Option.{Option}
-use Rattle.std.specs.declared.option.Option.the-variants.{None, Some}
+use Rattle.std.specs.declared.option.Option.the-variants.{Some}
 use Rattle.measure.specs.declared.Amount.{Amount}
 use Rattle.measure.specs.declared.Measure as measure
 use Rattle.measure.proofs.Within.{wider-to}
 use Rattle.graph.specs.Tree.{climb}
 use Rattle.graph.specs.declared.Graph as graph
 use Rattle.graph.specs.Theorems.{Solved}
-use Rattle.graph.specs.Weights.{valued, weights}
+use Rattle.graph.specs.Weights.{weights}
+use Rattle.graph.proofs.Valued.{amount-of}
 use Rattle.table.specs.declared.row.Row.{Row}
 use Rattle.table.specs.Climb.{deep}
 use Rattle.update.specs.Reading.{Deep, depth}
 use Rattle.update.specs.Restoring.{TightEdge}
-
--- the amount behind an element
-pub amount-of : {C : Type 0} (f : Amount → C) (o : Option Amount) (c : C) → valued f o ≡ plain.some c → (a : Amount) × (o ≡ Some a) × (f a ≡ c)
-amount-of f None c e = absurd (let z : _≡_ {A = ℕ} 0 1 = cc in no z)
-  where
-    no : _≡_ {A = ℕ} 0 1 → ⊥
-    no z = omega arith
-amount-of f (Some a) c e = (a, refl, cc)
 
 module _ {X Y : Type 0} (s : graph.Ghosts X) (m : measure.Ghosts Y) (x : X) (n : ℕ) (rows : List Row) (q : ℕ → ℕ)
     (small : (a b : ℕ) (w : Amount) → s .weight x a b ≡ Some w → m .within 1 w)

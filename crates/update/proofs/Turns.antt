@@ -1,7 +1,6 @@
 -- One turn of the loop that relaxes the edges from a marker. Assumes nothing.
-use mathlib.Core.Path.{_≡_, refl, sym, _∙_, ap, subst}
+use mathlib.Core.Path.{_≡_, sym, _∙_, ap, subst}
 use mathlib.Core.Bool.{Bool, true, false, true≢false}
-use mathlib.Core.Logic.{_⊎_, inl, inr}
 use mathlib.Core.List.{List}
 use mathlib.Core.Option as plain
 use Prim.Native.Nat.{ℕ, _+_, _≤_, _<_}
@@ -16,18 +15,13 @@ use Rattle.graph.specs.Graph.{Edge}
 use Rattle.graph.specs.declared.Graph as graph
 use Rattle.update.specs.declared.work.Work.{Work}
 use Rattle.graph.specs.Weights.{valued, weights}
+use Rattle.graph.proofs.Valued.{no-value, one-value}
 use Rattle.table.specs.declared.row.Row.{Row}
 use Rattle.table.specs.Climb.{deep, up as parents-of}
 use Rattle.update.specs.Reading.{Deep, depth, flag}
 use Rattle.update.specs.Relaxing.{Relaxing, Clashing}
 use Rattle.update.proofs.Relaxes.{relax-skip, relax-take}
 use Rattle.update.proofs.Rows.{deep-same, deep-other, up-same, up-other}
-
-pub no-value : {C : Type 0} (f : Amount → C) (o : Option Amount) (c : C) → o ≡ None → valued f o ≡ plain.some c → ⊥
-no-value f o c e h = let k : plain.none ≡ plain.some c = sym (ap (valued f) e) ∙ h in let z : _≡_ {A = ℕ} 0 1 = cc in omega arith
-
-pub one-value : {C : Type 0} (f : Amount → C) (o : Option Amount) (a : Amount) (c : C) → o ≡ Some a → valued f o ≡ plain.some c → c ≡ f a
-one-value f o a c e h = let k : plain.some (f a) ≡ plain.some c = sym (ap (valued f) e) ∙ h in cc
 
 -- no edge leads from a marker to itself
 pub not-loop : {C : Type 0} (f : Amount → C) (w : ℕ → ℕ → Option Amount) (a b : ℕ) (c : C) → w a a ≡ None → valued f (w a b) ≡ plain.some c → ¬ (a ≡ b)
@@ -92,7 +86,7 @@ module _ {X Y : Type 0} (s : graph.Ghosts X) (m : measure.Ghosts Y) (x : X) (old
         pub turn-clash : flag U z ≡ true → Clashing (m .group) (s .count x) (weights s m x) (flag (old .done)) (flag U) (depth m (old .rows)) (parents-of (old .rows)) y z
         turn-clash up = record {
           unsettled = free-old;
-          held = up;
+          fixed = up;
           amount = m .value a;
           edge = an-edge;
           falls = λ h. fell (rw (is-sum, turn .0 .later z here .0) h);

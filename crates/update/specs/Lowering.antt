@@ -7,7 +7,8 @@ use Rattle.measure.specs.Group.{OrderedGroup}
 use Rattle.graph.specs.Graph.{Weight, Cycle, Fits}
 use Rattle.graph.specs.Tree.{climb, way, Tree, Tight}
 use Rattle.graph.specs.Theorems.{Solved}
-use Rattle.graph.proofs.Relabel.{Lowered, Relabel, Below}
+use Rattle.graph.specs.Change.{Lowered}
+use Rattle.graph.proofs.Relabel.{Relabel, Below}
 use Rattle.graph.proofs.Regrow.{Grown}
 
 -- how many of the first n are settled
@@ -29,7 +30,7 @@ module _ (g : OrderedGroup) (n : ℕ) (w w′ : Weight g) (a b : ℕ) (c : g .ca
     pub fits : Fits g n w d
     pub tree : Tree n p
     pub tight : Tight g n w d p
-    pub held : Ancestors p a U
+    pub above : Ancestors p a U
     pub apart : U b ≡ false
     pub falls : ¬ g .le (d b) (g .plus (d a) c)
 
@@ -52,12 +53,12 @@ pub record NegativeCycle (g : OrderedGroup) (n : ℕ) (w : Weight g) (q : ℕ �
   pub negative : ¬ g .le (g .neutral) sum
 
 -- a new shortest-path tree, or a contradiction
-abbrev pub Outcome : (g : OrderedGroup) → ℕ → Weight g → ℕ → ℕ → (ℕ → g .carrier) → (ℕ → ℕ) → Bool → Type 0
-Outcome g n w a b L q true = Solved g n w L q
-Outcome g n w a b L q false = NegativeCycle g n w q a b
+abbrev pub Settlement : (g : OrderedGroup) → ℕ → Weight g → ℕ → ℕ → (ℕ → g .carrier) → (ℕ → ℕ) → Bool → Type 0
+Settlement g n w a b L q true = Solved g n w L q
+Settlement g n w a b L q false = NegativeCycle g n w q a b
 
 -- d and p are a shortest-path tree before the edge from a to b fell to c
-pub record Standing (g : OrderedGroup) (n : ℕ) (w′ : Weight g) (a b : ℕ) (c : g .carrier) (d : ℕ → g .carrier) (p : ℕ → ℕ) : Type 0 where
+pub record SolvedBefore (g : OrderedGroup) (n : ℕ) (w′ : Weight g) (a b : ℕ) (c : g .carrier) (d : ℕ → g .carrier) (p : ℕ → ℕ) : Type 0 where
   pub was : Weight g
   pub solved : Solved g n was d p
   pub low : Lowered g was w′ a b c

@@ -1,12 +1,12 @@
 ghost use mathlib.Core.Path.{_≡_};
 ghost use mathlib.Core.Bool.{true};
-ghost use Prim.Native.Nat.{ℕ, _+_, _≤_, _<_};
+ghost use Prim.Native.Nat.{ℕ, _+_, _<_};
 ghost use Rattle.std.specs.declared.option.Option.the-variants.{Some};
 ghost use Rattle.graph.specs.Graph.{Weight};
 ghost use Rattle.graph.specs.Weights.{Usable, weights};
 ghost use Rattle.table.specs.Climb.{up as parents-of};
 ghost use Rattle.update.specs.Reading.{Deep, depth, flag};
-ghost use Rattle.update.specs.Lowering.{Falls, Growing, Outcome, settled, Standing};
+ghost use Rattle.update.specs.Lowering.{Falls, Growing, Settlement, settled, SolvedBefore};
 ghost use Rattle.update.specs.Lowers.{Lowers};
 use crate::Lowering;
 use crate::Work;
@@ -34,7 +34,7 @@ fn settle_fallen<G: Graph, M: Measure>(
     ensures outcome { λ r. ⌜ ((w : Weight group) (a b : ℕ) (c : group .carrier)
         → Falls group (now (old .entry) .n) w (weights G·Graph M·Measure (now (graph .entry))) a b c (depth M·Measure (now (old .entry) .rows)) (parents-of (now (old .entry) .rows)) (flag (now (up .entry)))
         → Growing group (now (old .entry) .n) w (weights G·Graph M·Measure (now (graph .entry))) a b c (depth M·Measure (now (old .entry) .rows)) (parents-of (now (old .entry) .rows)) (flag (now (up .entry))) (flag (now (work .entry) .done)) (depth M·Measure (now (work .entry) .rows)) (parents-of (now (work .entry) .rows))
-        → Outcome group (now (old .entry) .n) (weights G·Graph M·Measure (now (graph .entry))) a b (depth M·Measure (now (work .exit) .rows)) (parents-of (now (work .exit) .rows)) r) ⌝ }
+        → Settlement group (now (old .entry) .n) (weights G·Graph M·Measure (now (graph .entry))) a b (depth M·Measure (now (work .exit) .rows)) (parents-of (now (work .exit) .rows)) r) ⌝ }
     ensures sizes { λ _. ⌜ Deep M·Measure (now (old .entry) .n) 128 (now (work .exit) .rows) ⌝ }
 {
     while let Some(y) = nearest(measure, old, work) {
@@ -65,7 +65,7 @@ pub fn lower<G: Graph, M: Measure>(
     requires end { ⌜ b < now old .n ⌝ }
     requires edge { ⌜ G·Graph .weight (now graph) a b ≡ Some w ⌝ }
     requires depths { ⌜ Deep M·Measure (now old .n) 63 (now old .rows) ⌝ }
-    requires standing { ⌜ Standing group (now old .n) (weights G·Graph M·Measure (now graph)) a b (value w) (depth M·Measure (now old .rows)) (parents-of (now old .rows)) ⌝ }
+    requires standing { ⌜ SolvedBefore group (now old .n) (weights G·Graph M·Measure (now graph)) a b (value w) (depth M·Measure (now old .rows)) (parents-of (now old .rows)) ⌝ }
     ensures { λ r. ⌜ Lowers M·Measure (now (old .entry) .n) (weights G·Graph M·Measure (now (graph .entry))) a b (now (old .entry) .rows) r ⌝ }
 {
     let sum = measure.sum(old.depth(a), w);

@@ -1,6 +1,4 @@
-ghost use mathlib.Core.Path.{_≡_};
-ghost use mathlib.Core.Bool.{true};
-ghost use Prim.Native.Nat.{ℕ, _+_, _≤_, _<_};
+ghost use Prim.Native.Nat.{_<_};
 ghost use Rattle.std.specs.Orderings.{Decides};
 ghost use Rattle.update.specs.Reading.{Deep, depth, flag};
 ghost use Rattle.update.specs.Nearest.{Best};

@@ -63,6 +63,7 @@ pub fn restore<G: Graph, M: Measure>(graph: &G, measure: &M, old: &DepthTable, w
     requires sizes { ⌜ Deep M·Measure (now old .n) 63 (now work .rows) ⌝ }
     requires solved { ⌜ Solved group (now old .n) (weights G·Graph M·Measure (now graph)) (depth M·Measure (now work .rows)) (parents-of (now work .rows)) ⌝ }
     ensures depths { λ _. ⌜ ((z : ℕ) → deep (now (work .exit) .rows) z ≡ deep (now (work .entry) .rows) z) ⌝ }
+    ensures done { λ _. ⌜ now (work .exit) .done ≡ now (work .entry) .done ⌝ }
     ensures solved { λ _. ⌜ Solved group (now (old .entry) .n) (weights G·Graph M·Measure (now (graph .entry))) (depth M·Measure (now (work .exit) .rows)) (parents-of (now (work .exit) .rows)) ⌝ }
     ensures kept { λ _. ⌜ ((m : ℕ) → m < now (old .entry) .n
         → PathTo group (now (old .entry) .n) (weights G·Graph M·Measure (now (graph .entry))) (path-to (parents-of (now (old .entry) .rows)) (now (old .entry) .n) m) m (depth M·Measure (now (work .exit) .rows) m)

@@ -1,6 +1,5 @@
-ghost use mathlib.Core.Path.{_≡_};
 ghost use mathlib.Core.Bool.{true};
-ghost use Prim.Native.Nat.{ℕ, _+_, _≤_, _<_};
+ghost use Prim.Native.Nat.{_<_};
 ghost use Rattle.table.specs.Climb.{up as parents-of};
 ghost use Rattle.update.specs.Reading.{flag};
 ghost use Rattle.update.specs.Lowering.{Ancestors};
@@ -13,9 +12,10 @@ pub fn ancestors(old: &DepthTable, m: u16) -> [bool; 64]
 {
     let mut up = [false; 64];
     let mut here = m;
-    for _step in 0..old.n() {
+    while here != 0 {
         up[here as usize] = true;
         here = old.parent(here);
     }
+    up[0] = true;
     up
 }

@@ -1,7 +1,7 @@
-use mathlib.Core.Path.{_≡_, refl, sym, ap, _∙_}
+use mathlib.Core.Path.{_≡_, sym, ap, _∙_}
 use mathlib.Core.Logic.{inl, inr}
-use mathlib.Core.List.{List, _∷_}
-use Prim.Native.Nat.{ℕ, suc, _+_, _-_, _<_, _≤_}
+use mathlib.Core.List.{_∷_}
+use Prim.Native.Nat.{ℕ, _+_, _-_, _<_, _≤_}
 use native.Mathlib.Omega.{arith}
 use lib.ListN.{length, getD, set}
 use Rattle.std.proofs.shelf.Lists.{getD-set-same, getD-set-other}
@@ -9,7 +9,7 @@ use Rattle.std.proofs.shelf.Tests.{cases-eq}
 use Rattle.graph.specs.Tree.{climb, way}
 use Rattle.table.specs.Climb.{up, over-front, FirstClimb}
 use Rattle.table.proofs.Climbs.{climb-last, first-least, first-one}
-use Rattle.table.proofs.Ways.{written, down}
+use Rattle.table.proofs.Ways.{written}
 use Rattle.table.proofs.climb.trail.Needs as need
 
 pub loop-at-again : need.loop-at-again
@@ -19,8 +19,8 @@ loop-at-again c =
     let to = c .args .to in
     let k = c .loop-at .steps in
     let on : (j : ℕ) → FirstClimb f j from to → k + 1 ≤ j = λ j o.
-        let l : k ≤ j = c .loop-at .inv .1 j o in
-        omega (arith, λ (e : k ≡ j). c .loop-at-test .taken (c .loop-at .inv .0 ∙ ap (λ i. climb f i from) e ∙ o .there)) in
+    let l : k ≤ j = c .loop-at .inv .1 j o in
+    omega (arith, λ (e : k ≡ j). c .loop-at-test .taken (c .loop-at .inv .0 ∙ ap (λ i. climb f i from) e ∙ o .there)) in
     let lead = c .pre in
     let last : k + 1 ≤ lead .steps = on (lead .steps) (lead .first) in
     let short : lead .steps < 64 = lead .short in
@@ -61,8 +61,8 @@ returns c =
     let most : h ≤ lead .steps = c .loop-at .inv .1 (lead .steps) (lead .first) in
     let fits : lead .steps < length old = lead .fits in
     let is : (k : ℕ) → FirstClimb f k m to → h ≡ k = λ k o.
-        let s : lead .steps ≡ k = first-one f (lead .steps) k m to (lead .first) o in
-        omega arith in
+    let s : lead .steps ≡ k = first-one f (lead .steps) k m to (lead .first) o in
+    omega arith in
     record {
       count = λ k o. ap (λ x. x + 1) (is k o);
       out = λ k o. written f h m old (c .loop-i .out) (omega arith) (c .loop-i .kept .out) (λ k l. c .loop-i .inv .1 k (omega arith) l) (c .loop-i .inv .2)

@@ -1,10 +1,10 @@
-use mathlib.Core.Path.{_≡_, refl, sym, ap, _∙_, subst}
-use mathlib.Core.Bool.{Bool, true, false, true≢false}
+use mathlib.Core.Path.{sym, _∙_, subst}
+use mathlib.Core.Bool.{Bool, false, true≢false}
 use mathlib.Core.List.{List}
-use Prim.Native.Nat.{ℕ, _+_, _<_}
+use Prim.Native.Nat.{_<_}
 use native.Mathlib.Omega.{arith}
 use borrow.Author.Needs.{needs}
-use lib.ListN.{length, set, replicate}
+use lib.ListN.{length, replicate}
 use Rattle.measure.specs.declared.Amount.{Amount}
 use Rattle.measure.proofs.Within.{wider-to}
 use Rattle.graph.specs.Theorems.{Solved}
@@ -12,13 +12,13 @@ use Rattle.graph.specs.Weights.{weights}
 use Rattle.table.specs.declared.row.Row.{Row}
 use Rattle.table.specs.Climb.{deep, up as parents-of}
 use Rattle.update.specs.Reading.{Deep, depth, flag}
-use Rattle.update.specs.Lowering.{Growing, NegativeCycle, Outcome, settled}
+use Rattle.update.specs.Lowering.{NegativeCycle, Settlement, settled}
 use Rattle.update.proofs.Rows.{no-flag}
 use Rattle.update.proofs.Sizes.{stepped}
 use Rattle.update.proofs.Shrinks.{shrunk}
 use Rattle.update.proofs.Turns.{not-loop}
 use Rattle.update.proofs.Ends.{same-solved, turning}
-use Rattle.update.proofs.Begins.{begin-sizes, begin-falls, begin-growing}
+use Rattle.update.proofs.Begins.{begin-sizes, begun}
 use Rattle.update.proofs.lower.lower.Needs as need
 
 pub at-most-requires : need.at-most-requires
@@ -65,13 +65,12 @@ settle-fallen-requires g c κs =
     let small = c .pre .graph .small (c .args .a) (c .args .b) (c .args .w) (c .pre .edge) in
     let added = stepped m (deep rows (c .args .a)) (c .depth .result) (c .args .w) (c .sum-sum .result) (c .depth .ensures) (c .sum-sum .ensures) (c .pre .depths (c .args .a) (c .pre .start)) small in
     let long : c .args .b < length (c .args .old .now .rows) = search needs in
-    let k = settled (flag (replicate 64 false)) (old .n) in
     record {
       graph = c .pre .graph;
       same = c .pre .same;
       depths = c .pre .depths;
-      sizes = subst (λ (r : List Row). Deep m (old .n) (64 + k) (set r (c .args .b) (record { depth = c .sum-sum .result; parent = c .args .a }))) (sym (c .rows .ensures))
-          (begin-sizes m (old .n) (weights (g .G·Graph) m (c .args .graph .now)) rows (c .args .a) (c .args .b) (c .args .w) (c .sum-sum .result) (c .pre .start) (c .pre .end) long added (g .M·Measure .laws .wider) (c .pre .depths) k);
+      sizes = begin-sizes m (old .n) (weights (g .G·Graph) m (c .args .graph .now)) rows (c .args .a) (c .args .b) (c .args .w) (c .sum-sum .result) (c .pre .start) (c .pre .end) long added (c .rows .result) (c .rows .ensures) (c .pre .depths)
+          (settled (flag (replicate 64 false)) (old .n));
     }
 
 pub returns-then-settle-fallen : need.returns-then-settle-fallen
@@ -81,19 +80,17 @@ returns-then-settle-fallen g c =
     let rows = c .args .old .now .rows in
     let a = c .args .a in
     let b = c .args .b in
-    let before = c .pre .standing in
     let w′ = weights (g .G·Graph) m (c .args .graph .now) in
     let end = c .settle-fallen .last .work in
-    let row : Row = record { depth = c .sum-sum .result; parent = c .args .a } in
     let small = c .pre .graph .small a b (c .args .w) (c .pre .edge) in
     let added = stepped m (deep rows a) (c .depth .result) (c .args .w) (c .sum-sum .result) (c .depth .ensures) (c .sum-sum .ensures) (c .pre .depths a (c .pre .start)) small in
     let long : c .args .b < length (c .args .old .now .rows) = search needs in
     let fell : ¬ m .group .le (depth m rows b) (m .value (c .sum-sum .result)) = λ h. true≢false (sym (c .at-most .ensures .1 (rw (c .depth-2 .ensures) h)) ∙ c .if-at-most .left) in
-    let falls = begin-falls m (old .n) w′ rows a b (c .args .w) (c .sum-sum .result) (c .pre .start) (c .pre .end) long added (replicate 64 false) (c .ancestors-up .result) (no-flag 64) before (c .ancestors-up .ensures) (c .if-up-b .left) fell in
-    let growing = begin-growing m (old .n) w′ rows a b (c .args .w) (c .sum-sum .result) (c .pre .start) (c .pre .end) long added (replicate 64 false) (c .ancestors-up .result) (no-flag 64) before (c .ancestors-up .ensures) (c .if-up-b .left) fell in
-    let grows = subst (λ (r : List Row). Growing (m .group) (old .n) (before .was) w′ a b (m .value (c .args .w)) (depth m rows) (parents-of rows) (flag (c .ancestors-up .result)) (flag (replicate 64 false)) (depth m (set r b row)) (parents-of (set r b row))) (sym (c .rows .ensures)) growing in
+    let ends : Bool → Type 0 = λ v. Settlement (m .group) (old .n) w′ a b (depth m (end .rows)) (parents-of (end .rows)) v in
     let solved : Solved (m .group) (old .n) w′ (depth m (end .rows)) (parents-of (end .rows)) =
-    subst (λ (v : Bool). Outcome (m .group) (old .n) w′ a b (depth m (end .rows)) (parents-of (end .rows)) v) (c .if-settle-fallen .taken) (c .settle-fallen .ensures .outcome (before .was) a b (m .value (c .args .w)) falls grows) in
+    subst ends (c .if-settle-fallen .taken)
+    (begun m (old .n) w′ rows a b (c .args .w) (c .sum-sum .result) (c .pre .start) (c .pre .end) long added (replicate 64 false) (c .ancestors-up .result) (no-flag 64) (c .pre .standing) (c .ancestors-up .ensures) (c .if-up-b .left) fell
+    (c .rows .result) (c .rows .ensures) (λ x y. Settlement (m .group) (old .n) w′ x y (depth m (end .rows)) (parents-of (end .rows)) (c .settle-fallen .result)) (c .settle-fallen .ensures .outcome)) in
     let sizes : Deep m (old .n) 256 (end .rows) = λ z h. wider-to (g .M·Measure .laws .wider) 128 256 (deep (end .rows) z) (omega arith) (c .settle-fallen .ensures .sizes z h) in
     (solved, shrunk (g .G·Graph) m (c .args .graph .now) (old .n) (end .rows) (parents-of (end .rows)) (c .pre .graph .small) solved sizes (old .few))
 
@@ -104,15 +101,13 @@ returns-else-settle-fallen g c =
     let rows = c .args .old .now .rows in
     let a = c .args .a in
     let b = c .args .b in
-    let before = c .pre .standing in
     let w′ = weights (g .G·Graph) m (c .args .graph .now) in
     let end = c .settle-fallen .last .work in
-    let row : Row = record { depth = c .sum-sum .result; parent = c .args .a } in
     let small = c .pre .graph .small a b (c .args .w) (c .pre .edge) in
     let added = stepped m (deep rows a) (c .depth .result) (c .args .w) (c .sum-sum .result) (c .depth .ensures) (c .sum-sum .ensures) (c .pre .depths a (c .pre .start)) small in
     let long : c .args .b < length (c .args .old .now .rows) = search needs in
     let fell : ¬ m .group .le (depth m rows b) (m .value (c .sum-sum .result)) = λ h. true≢false (sym (c .at-most .ensures .1 (rw (c .depth-2 .ensures) h)) ∙ c .if-at-most .left) in
-    let falls = begin-falls m (old .n) w′ rows a b (c .args .w) (c .sum-sum .result) (c .pre .start) (c .pre .end) long added (replicate 64 false) (c .ancestors-up .result) (no-flag 64) before (c .ancestors-up .ensures) (c .if-up-b .left) fell in
-    let growing = begin-growing m (old .n) w′ rows a b (c .args .w) (c .sum-sum .result) (c .pre .start) (c .pre .end) long added (replicate 64 false) (c .ancestors-up .result) (no-flag 64) before (c .ancestors-up .ensures) (c .if-up-b .left) fell in
-    let grows = subst (λ (r : List Row). Growing (m .group) (old .n) (before .was) w′ a b (m .value (c .args .w)) (depth m rows) (parents-of rows) (flag (c .ancestors-up .result)) (flag (replicate 64 false)) (depth m (set r b row)) (parents-of (set r b row))) (sym (c .rows .ensures)) growing in
-    subst (λ (v : Bool). Outcome (m .group) (old .n) w′ a b (depth m (end .rows)) (parents-of (end .rows)) v) (c .if-settle-fallen .left) (c .settle-fallen .ensures .outcome (before .was) a b (m .value (c .args .w)) falls grows)
+    let ends : Bool → Type 0 = λ v. Settlement (m .group) (old .n) w′ a b (depth m (end .rows)) (parents-of (end .rows)) v in
+    subst ends (c .if-settle-fallen .left)
+    (begun m (old .n) w′ rows a b (c .args .w) (c .sum-sum .result) (c .pre .start) (c .pre .end) long added (replicate 64 false) (c .ancestors-up .result) (no-flag 64) (c .pre .standing) (c .ancestors-up .ensures) (c .if-up-b .left) fell
+    (c .rows .result) (c .rows .ensures) (λ x y. Settlement (m .group) (old .n) w′ x y (depth m (end .rows)) (parents-of (end .rows)) (c .settle-fallen .result)) (c .settle-fallen .ensures .outcome))

@@ -1,6 +1,3 @@
-use native.Mathlib.Omega.{arith}
-use mathlib.Core.Path.{_≡_, sym, ap, _∙_, subst}
-use borrow.Author.Needs.{needs}
 use Rattle.table.specs.Climb.{deep}
 use Rattle.update.proofs.Sizes.{halves}
 use Rattle.update.proofs.nearest.leads.Needs as need

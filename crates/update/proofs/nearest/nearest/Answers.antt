@@ -1,6 +1,5 @@
-use mathlib.Core.Path.{_≡_, sym, ap, _∙_, subst}
+use mathlib.Core.Path.{sym, _∙_}
 use mathlib.Core.Bool.{true≢false}
-use borrow.Author.Needs.{needs}
 use Rattle.update.specs.Reading.{flag, depth}
 use Rattle.update.proofs.Picks.{picked-first, picked-same, picked-new, skipped}
 use Rattle.update.proofs.nearest.nearest.Needs as need

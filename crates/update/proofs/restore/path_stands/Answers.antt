@@ -1,4 +1,4 @@
-use mathlib.Core.Path.{_≡_, refl, sym, ap, _∙_, subst}
+use mathlib.Core.Path.{refl, sym, _∙_, subst}
 use mathlib.Core.Bool.{true≢false}
 use Prim.Native.Nat.{ℕ, _-_, _<_}
 use native.Mathlib.Omega.{arith}
@@ -6,9 +6,10 @@ use lib.ListN.{length}
 use Rattle.graph.specs.Tree.{climbed}
 use Rattle.graph.specs.Weights.{weights}
 use Rattle.table.specs.Climb.{up as parents-of}
+use Rattle.table.proofs.Climbs.{parent-shorter}
 use Rattle.update.specs.Reading.{depth}
 use Rattle.update.specs.Restoring.{Stands, TightEdge}
-use Rattle.update.proofs.Restores.{datum-stands, parent-shorter, stands-down, stands-up}
+use Rattle.update.proofs.Restores.{datum-stands, stands-down, stands-up}
 use Rattle.update.proofs.restore.path_stands.Needs as need
 
 pub returns-then-not-tight : need.returns-then-not-tight
@@ -20,8 +21,8 @@ returns-then-not-tight g c =
     let L = depth m (c .args .work .now .rows) in
     let here = c .loop-here .here in
     let edge : Stands (m .group) (old .n) w L p (c .args .m) → TightEdge (m .group) (g .G·Graph .count (c .args .graph .now)) w L (c .parent-above .result) here = λ s.
-        subst (λ (k : ℕ). TightEdge (m .group) k w L (c .parent-above .result) here) (c .pre .same)
-        (subst (λ (u : ℕ). TightEdge (m .group) (old .n) w L u here) (sym (c .parent-above .ensures .is)) (c .loop-here .inv .2 s 0 (omega (arith, c .loop-here-test .taken)))) in (
+    subst (λ (k : ℕ). TightEdge (m .group) k w L (c .parent-above .result) here) (c .pre .same)
+    (subst (λ (u : ℕ). TightEdge (m .group) (old .n) w L u here) (sym (c .parent-above .ensures .is)) (c .loop-here .inv .2 s 0 (omega (arith, c .loop-here-test .taken)))) in (
       (λ e. absurd (true≢false (sym e))),
       (λ s. sym (c .if-not-tight .taken) ∙ c .tight .ensures .1 (edge s)),
     )
@@ -43,8 +44,8 @@ loop-here-again g c =
     let L = depth m (c .args .work .now .rows) in
     let here = c .loop-here .here in
     let edge : TightEdge (m .group) (old .n) w L (p here) here =
-        subst (λ (u : ℕ). TightEdge (m .group) (old .n) w L u here) (c .parent-above .ensures .is)
-        (subst (λ (k : ℕ). TightEdge (m .group) k w L (c .parent-above .result) here) (sym (c .pre .same)) (c .tight .ensures .0 (c .if-not-tight .left))) in (
+    subst (λ (u : ℕ). TightEdge (m .group) (old .n) w L u here) (c .parent-above .ensures .is)
+    (subst (λ (k : ℕ). TightEdge (m .group) k w L (c .parent-above .result) here) (sym (c .pre .same)) (c .tight .ensures .0 (c .if-not-tight .left))) in (
       c .parent-above .ensures .within,
       (λ s. c .loop-here .inv .1 (stands-down (m .group) (old .n) w L p here edge (subst (λ (u : ℕ). Stands (m .group) (old .n) w L p u) (c .parent-above .ensures .is) s))),
       (λ s. subst (λ (u : ℕ). Stands (m .group) (old .n) w L p u) (sym (c .parent-above .ensures .is)) (stands-up (m .group) (old .n) w L p here (c .loop-here .inv .2 s))),

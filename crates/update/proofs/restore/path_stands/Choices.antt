@@ -1,4 +1,4 @@
-use Prim.Native.Nat.{ℕ, _-_, _<_}
+use Prim.Native.Nat.{_-_, _<_}
 use lib.ListN.{length}
 use Rattle.graph.specs.Tree.{climbed}
 use Rattle.graph.specs.Weights.{weights}

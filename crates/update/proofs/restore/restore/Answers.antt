@@ -1,6 +1,5 @@
 use mathlib.Core.Path.{_≡_, refl, sym, ap, _∙_, subst, fun-ext}
 use mathlib.Core.Bool.{true≢false}
-use mathlib.Core.List.{List}
 use mathlib.Core.Logic.{inl, inr}
 use Prim.Native.Nat.{ℕ, _<_, _≤_, _+_}
 use native.Mathlib.Omega.{arith}
@@ -23,7 +22,7 @@ use Rattle.update.proofs.restore.restore.Needs as need
 use Rattle.update.proofs.restore.restore.Needs.{then-work-m·then-path-stands, else-work-m, else-work-m·by·then-work-m·else-path-stands, else-work-m·by·else-work-m}
 
 pub loop-m-holds : need.loop-m-holds
-loop-m-holds g c = ((λ z. refl), (λ z h. absurd (omega arith)), (λ z h. refl), refl)
+loop-m-holds g c = ((λ z. refl), (λ z h. absurd (omega arith)), (λ z h. refl), refl, refl)
 
 pub path-stands-requires : need.path-stands-requires
 path-stands-requires g c κs =
@@ -50,7 +49,7 @@ loop-m-again g c =
     let same : depth m now ≡ L = fun-ext (λ z. ap (m .value) (c .loop-m .inv .0 z)) in
     let stands : (ℕ → m .group .carrier) → Type 0 = λ v. Stands (m .group) (old .n) w v p k in
     let goal : Work → Type 0 = λ v. ((z : ℕ) → deep (v .rows) z ≡ deep start z) × Restored (m .group) (old .n) w L p q (parents-of (v .rows)) (k + 1)
-        × ((z : ℕ) → k + 1 ≤ z → parents-of (v .rows) z ≡ q z) × (length (v .rows) ≡ length start) in
+    × ((z : ℕ) → k + 1 ≤ z → parents-of (v .rows) z ≡ q z) × (length (v .rows) ≡ length start) × (v .done ≡ c .args .work .now .done) in
     let long : c .loop-m .m < length (c .args .work .now .rows) = search needs in
     let tall : c .loop-m .m < length (c .loop-m .work .rows) = subst (λ (x : ℕ). c .loop-m .m < x) (sym (c .loop-m .inv .3)) long in
     let keeps : (Stands (m .group) (old .n) w L p k → q k ≡ p k) → goal (c .loop-m .work) = λ t. (
@@ -58,6 +57,7 @@ loop-m-again g c =
       restored-more (m .group) (old .n) w L p q (parents-of now) (parents-of now) k (c .loop-m .inv .1) (λ z ne. refl) (inr (t, c .loop-m .inv .2 k (omega arith))),
       (λ z h. c .loop-m .inv .2 z (omega arith)),
       c .loop-m .inv .3,
+      c .loop-m .inv .4,
     ) in
     elim (c .if-work-m .came) [
       | then-work-m·then-path-stands v ↦
@@ -68,6 +68,7 @@ loop-m-again g c =
                 (inl (subst stands same (v .path-stands .ensures .0 (v .if-path-stands .taken)), up-same now k row tall ∙ c .parent-parent .ensures .is)),
             (λ z h. up-other now k z row (λ e. omega arith) ∙ c .loop-m .inv .2 z (omega arith)),
             length-set now k row ∙ c .loop-m .inv .3,
+            c .loop-m .inv .4,
           )
       | else-work-m v ↦
           subst goal (sym (v .work-is)) (keeps
@@ -92,6 +93,7 @@ returns g c =
     let each : Restored (m .group) (old .n) w L p q q′ (old .n) = λ z h. c .loop-m .inv .1 z (omega arith) in
     record {
       depths = c .loop-m .inv .0;
+      done = c .loop-m .inv .4;
       solved = subst (λ (v : ℕ → m .group .carrier). Solved (m .group) (old .n) w v q′) (sym same) (restored (m .group) (old .n) w L p q q′ each tree (c .pre .solved) (old .some));
       kept = λ k h path. kept-path (m .group) (old .n) w L p q q′ each tree (c .pre .solved) k h (subst (λ (v : ℕ → m .group .carrier). PathTo (m .group) (old .n) w (path-to p (old .n) k) k (v k)) same path);
     }

@@ -1,5 +1,5 @@
 use mathlib.Core.Path.{_≡_}
-use Prim.Native.Nat.{ℕ, _≤_, _<_}
+use Prim.Native.Nat.{ℕ, _≤_}
 use lib.ListN.{length}
 use Rattle.graph.specs.Weights.{weights}
 use Rattle.table.specs.Climb.{deep, up as parents-of}
@@ -13,3 +13,4 @@ Inv-loop-m g l =
     × Restored (g .M·Measure .group) (l .old .n) (weights (g .G·Graph) (g .M·Measure) (l .graph)) (depth (g .M·Measure) (l .entry .work .rows)) (parents-of (l .old .rows)) (parents-of (l .entry .work .rows)) (parents-of (l .work .rows)) (l .m)
     × ((z : ℕ) → l .m ≤ z → parents-of (l .work .rows) z ≡ parents-of (l .entry .work .rows) z)
     × (length (l .work .rows) ≡ length (l .entry .work .rows))
+    × (l .work .done ≡ l .entry .work .done)

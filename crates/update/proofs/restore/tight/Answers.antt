@@ -1,7 +1,6 @@
-use mathlib.Core.Path.{_≡_, sym, ap, _∙_, subst}
+use mathlib.Core.Path.{sym, _∙_}
 use mathlib.Core.Bool.{true≢false}
 use native.Mathlib.Omega.{arith}
-use borrow.Author.Needs.{needs}
 use Rattle.measure.proofs.Within.{wider-to}
 use Rattle.graph.proofs.Sums.{le-of-eq}
 use Rattle.update.proofs.Restores.{tight-edge, edge-sum}

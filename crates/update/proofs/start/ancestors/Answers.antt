@@ -1,34 +1,41 @@
-use mathlib.Core.Path.{_≡_, refl, sym, ap, _∙_}
-use mathlib.Core.Bool.{true≢false}
-use Prim.Native.Nat.{ℕ, _<_}
+use mathlib.Core.Path.{sym, subst}
+use mathlib.Core.Bool.{true}
+use Prim.Native.Nat.{ℕ, _-_, _<_}
 use native.Mathlib.Omega.{arith}
-use borrow.Author.Needs.{needs}
-use lib.ListN.{length, length-set}
+use lib.ListN.{length, set}
+use Rattle.graph.specs.Tree.{climbed}
 use Rattle.table.specs.Climb.{up as parents-of}
-use Rattle.table.proofs.Climbs.{climb-last}
-use Rattle.update.proofs.Rows.{no-flag}
-use Rattle.update.proofs.Starts.{marked-all, marked-only, marked}
+use Rattle.table.proofs.Climbs.{parent-shorter}
+use Rattle.update.specs.Reading.{flag}
+use Rattle.update.specs.Lowering.{Ancestors}
+use Rattle.update.proofs.Starts.{Marked, mark-start, mark-step, mark-end}
 use Rattle.update.proofs.start.ancestors.Needs as need
 
-pub loop-step-holds : need.loop-step-holds
-loop-step-holds c = (refl, c .pre, (λ i h. absurd (omega arith)), refl, λ z h. absurd (true≢false (sym h ∙ no-flag 64 z)))
+pub loop-here-holds : need.loop-here-holds
+loop-here-holds c = (c .pre, mark-start (parents-of (c .args .old .now .rows)) (c .args .m))
 
-pub loop-step-again : need.loop-step-again
-loop-step-again c =
-    let p = parents-of (c .args .old .now .rows) in
-    let i = c .loop-step .-step in
-    let long : c .loop-step .here < length (c .loop-step .up) = (let few = c .args .old .now .few in omega arith) in (
-      c .parent-here .ensures .is ∙ ap p (c .loop-step .inv .0) ∙ sym (climb-last p i (c .args .m)),
+pub loop-here-less : need.loop-here-less
+loop-here-less c =
+    let t = c .args .old .now in
+    let p = parents-of (t .rows) in
+    let here = c .loop-here .here in
+    subst (λ (u : ℕ). length (climbed p (t .n - 1) u) < length (climbed p (t .n - 1) here)) (sym (c .parent-here .ensures .is))
+    (parent-shorter p (t .n - 1) here (c .loop-here-test .taken) (t .tree here (c .loop-here .inv .0)))
+
+pub loop-here-again : need.loop-here-again
+loop-here-again c =
+    let t = c .args .old .now in
+    let p = parents-of (t .rows) in
+    let here = c .loop-here .here in
+    let low : c .loop-here .here < length (c .loop-here .up) = (let few = t .few in let inside = c .loop-here .inv .0 in let size = c .loop-here .inv .1 .long in omega arith) in (
       c .parent-here .ensures .within,
-      marked-all p (c .args .m) (c .loop-step .up) i (c .loop-step .here) (c .loop-step .inv .0) long (c .loop-step .inv .2) (c .loop-step .inv .4),
-      length-set _ _ _ ∙ c .loop-step .inv .3,
-      marked-only p (c .args .m) (c .loop-step .up) i (c .loop-step .here) (c .loop-step .inv .0) long (c .loop-step .inv .2) (c .loop-step .inv .4),
+      subst (λ (u : ℕ). Marked p (c .args .m) u (set (c .loop-here .up) here true)) (sym (c .parent-here .ensures .is)) (mark-step p (c .args .m) here (c .loop-here .up) (c .loop-here .inv .1) low),
     )
 
 pub returns : need.returns
 returns c =
     let t = c .args .old .now in
     let p = parents-of (t .rows) in
-    marked p (c .args .m) (t .n) (c .loop-step .up) (t .root) (t .some) (t .tree (c .args .m) (c .pre))
-    (λ i h. c .loop-step .inv .2 i (omega arith))
-    (λ z h. let r = c .loop-step .inv .4 z h in let l : r .0 < c .loop-step .-step = r .1 in (r .0, omega arith, r .2))
+    let low : c .loop-here .here < length (c .loop-here .up) = (let few = t .few in let inside = c .loop-here .inv .0 in let size = c .loop-here .inv .1 .long in omega arith) in
+    subst (λ (u : ℕ). Ancestors p (c .args .m) (flag (set (c .loop-here .up) u true))) (c .loop-here-test .left)
+    (mark-end p (c .args .m) (c .loop-here .here) (c .loop-here .up) (c .loop-here .inv .1) low (t .root) (c .loop-here-test .left))

@@ -1,9 +1,9 @@
-use mathlib.Core.Path.{_≡_, sym, ap, _∙_}
+use mathlib.Core.Path.{sym, ap, _∙_}
 use mathlib.Core.List.{_∷_}
-use Prim.Native.Nat.{ℕ, _+_, _-_, _<_, _≤_}
+use Prim.Native.Nat.{_-_, _<_, _≤_}
 use native.Mathlib.Omega.{arith}
 use lib.ListN.{length}
-use Rattle.graph.specs.Tree.{climb, way}
+use Rattle.graph.specs.Tree.{climb}
 use Rattle.graph.proofs.Trees.{height-of}
 use Rattle.graph.proofs.Relabels.{climb-inside}
 use Rattle.table.specs.Climb.{up, over-front}

@@ -1,0 +1,15 @@
+pub mod Held
+pub mod Listed
+pub mod Places
+pub mod Determined
+pub mod Fronts
+pub mod Written
+pub mod Stored
+pub mod Stepping
+pub mod Progress
+pub mod Ends
+pub mod Counted
+pub mod Complete
+pub mod Concluded
+pub mod Making
+pub mod Recording

@@ -1,0 +1,4 @@
+pub mod Checks
+pub mod Forced
+pub mod Searches
+pub mod SmallWell
