@@ -14,7 +14,8 @@ use Rattle.measure.specs.Least.{first-of}
 use Rattle.measure.proofs.Within.{wider-to}
 use Rattle.store.specs.Meaning.{same-pair, set-tie}
 use Rattle.graph.specs.Weights.{valued}
-use Rattle.graph.specs.Change.{Lowered}
+use Rattle.graph.specs.Change.{Lowered, Raised}
+use Rattle.graph.specs.Graph.{Edge}
 use Rattle.graph.proofs.Valued.{amount-of}
 use Rattle.law.specs.Standing.{bound-at, bounds-of, capped, Ties}
 use Rattle.bounds.specs.Small.{BoundsSound, Small}
@@ -106,3 +107,23 @@ module _ {M : Type 0} (μ : measure.Ghosts M) where
     less = λ v k. let x = amount-of (μ .value) (bound-at μ total a b (t a b)) v k in subst (μ .group .le (μ .value c)) (x .2) (less (x .0) (x .1));
     other = λ x y ne. ap (λ (i : Option Amount). valued (μ .value) (bound-at μ total x y i)) (set-other t a b o x y ne);
   }
+
+  -- a tie that is cleared leaves no smaller bound
+  pub cleared-raised : (total : Amount) (t : Ties) (a b n : ℕ) → Raised (μ .group) n (bounds-of μ total t) (bounds-of μ total (set-tie t a b None))
+  cleared-raised total t a b n x y c (hx, hy, e) = by (cases-bool (same-pair a b x y))
+    where
+      by : (same-pair a b x y ≡ true) ⊎ (same-pair a b x y ≡ false) → (c′ : μ .group .carrier) × Edge (μ .group) n (bounds-of μ total t) x y c′ × μ .group .le c′ c
+      by (inl k) =
+          let gone = cond-true (same-pair a b x y) None (t x y) k in
+          let v = amount-of (μ .value) (bound-at μ total x y (set-tie t a b None x y)) c e in
+          let r = fewer total x y (t x y) (v .0) (ap (bound-at μ total x y) (sym gone) ∙ v .1) in
+          (μ .value (r .0), (hx, hy, ap (valued (μ .value)) (r .1)), subst (μ .group .le (μ .value (r .0))) (v .2) (r .2))
+      by (inr k) = (c, (hx, hy, ap (λ (i : Option Amount). valued (μ .value) (bound-at μ total x y i)) (sym (cond-false (same-pair a b x y) None (t x y) k)) ∙ e), μ .group .le-refl c)
+
+  -- a small tie that is set keeps the bounds small
+  pub set-sound : (total : Amount) (t : Ties) (a b : ℕ) (o : Option Amount) → BoundsSound μ total t → Small μ o → BoundsSound μ total (set-tie t a b o)
+  set-sound total t a b o s small = record { total-small = s .total-small; small = λ x y. by (same-pair a b x y) (t x y) (s .small x y) }
+    where
+      by : (p : Bool) (i : Option Amount) → Small μ i → Small μ (cond p o i)
+      by true i h = small
+      by false i h = h

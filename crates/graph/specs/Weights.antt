@@ -18,6 +18,7 @@ module _ {G M : Type 0} (s : graph.Ghosts G) (μ : measure.Ghosts M) where
   abbrev pub weights : G → Weight (μ .group)
   weights x a b = valued (μ .value) (s .weight x a b)
 
+  -- a graph that can be solved: at most 64 markers, weights within 1, each marker joined to the datum and none to itself
   pub record Usable (x : G) : Type 0 where
     pub sound : s .sound x
     pub some : 0 < s .count x

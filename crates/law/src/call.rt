@@ -97,7 +97,8 @@ pub enum Answer {
     Length { length: u16 },
 }
 
-/// A call with its answer, and what its buffer then has.
+/// A call with its answer, and what its buffer then has. (A log of the law is a list of such entries, with buffers of any
+/// length.)
 #[derive(Clone, Copy, Debug)]
 pub struct Entry {
     pub call: Call,

@@ -46,17 +46,21 @@ some-none : {A : Type 0} (x : A) → Some x ≡ None → ⊥
 some-none x e = let z : _≡_ {A = ℕ} 0 1 = cc in omega arith
 
 -- a check that was passed
-passed : (b : Bool) (why : Refusal) (rest : List (Option Refusal)) → first (when b why ∷ rest) ≡ None → (b ≡ false) × (first rest ≡ None)
+pub passed : (b : Bool) (why : Refusal) (rest : List (Option Refusal)) → first (when b why ∷ rest) ≡ None → (b ≡ false) × (first rest ≡ None)
 passed true why rest e = absurd (some-none why e)
 passed false why rest e = (refl, e)
 
-last-none : (o : Option Refusal) → first (o ∷ []) ≡ None → o ≡ None
+pub last-none : (o : Option Refusal) → first (o ∷ []) ≡ None → o ≡ None
 last-none None e = refl
 last-none (Some why) e = absurd (some-none why e)
 
 pub none-of : (o : Option Refusal) → as-result o ≡ Ok tt → o ≡ None
 none-of None e = refl
 none-of (Some why) e = absurd (let z : _≡_ {A = ℕ} 0 1 = cc in omega arith)
+
+pub some-of : (o : Option Refusal) (why : Refusal) → as-result o ≡ Err why → o ≡ Some why
+some-of None why e = absurd (let z : _≡_ {A = ℕ} 0 1 = cc in omega arith)
+some-of (Some r) why e = cc
 
 or-false : (a b : Bool) → (not a || b) ≡ false → (a ≡ true) × (b ≡ false)
 or-false true b e = (refl, e)

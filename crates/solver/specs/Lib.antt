@@ -1,3 +1,4 @@
 pub mod Model
 pub mod Suits
 pub mod Opening
+pub mod Changing

@@ -1,10 +1,12 @@
-//! What opening checks before it solves.
+//! What is checked before anything is solved.
 
 ghost use mathlib.Core.Path.{_≡_};
 ghost use Rattle.law.specs.Refusals.{bad-tie, first-bad-tie, lowest};
+ghost use Rattle.solver.specs.Changing.{tie-refusal, untie-refusal};
 ghost use Rattle.solver.specs.Opening.{as-result, opening-refusal};
 use crate::solver::Solver;
 use law::Refusal;
+use measure::Amount;
 use measure::Measure;
 use store::TieStore;
 
@@ -67,5 +69,59 @@ impl<S: TieStore, M: Measure> Solver<S, M> {
             Some(why) => Err(why),
             None => Ok(()),
         }
+    }
+
+    // Why a tie may not be put with a buffer of this length, before anything is solved.
+    pub(crate) fn check_tie(
+        &self,
+        from: u16,
+        to: u16,
+        amount: Amount,
+        room: usize,
+    ) -> Result<(), Refusal>
+        requires sound { ⌜ S·TieStore .sound (now self .store) ⌝ }
+        ensures { λ r. ⌜ r ≡ as-result (tie-refusal M·Measure (S·TieStore .meaning (now (self .entry) .store)) from to amount room) ⌝ }
+    {
+        let n = self.store.marker_count();
+        if from >= n || to >= n {
+            return Err(Refusal::UnknownMarker);
+        }
+        if from == to {
+            return Err(Refusal::SameMarker);
+        }
+        if self.store.is_closed(from) || self.store.is_closed(to) {
+            return Err(Refusal::ClosedMarker);
+        }
+        if !self.measure.admitted(amount) {
+            return Err(Refusal::BadAmount);
+        }
+        if room < n as usize {
+            return Err(Refusal::ShortBuffer);
+        }
+        if self.store.amount(from, to).is_none() && self.store.free() == 0 {
+            return Err(Refusal::StoreFull);
+        }
+        Ok(())
+    }
+
+    // Why a tie may not be cleared.
+    pub(crate) fn check_untie(&self, from: u16, to: u16) -> Result<(), Refusal>
+        requires sound { ⌜ S·TieStore .sound (now self .store) ⌝ }
+        ensures { λ r. ⌜ r ≡ as-result (untie-refusal (S·TieStore .meaning (now (self .entry) .store)) from to) ⌝ }
+    {
+        let n = self.store.marker_count();
+        if from >= n || to >= n {
+            return Err(Refusal::UnknownMarker);
+        }
+        if from == to {
+            return Err(Refusal::SameMarker);
+        }
+        if self.store.is_closed(from) || self.store.is_closed(to) {
+            return Err(Refusal::ClosedMarker);
+        }
+        if self.store.amount(from, to).is_none() {
+            return Err(Refusal::PairEmpty);
+        }
+        Ok(())
     }
 }

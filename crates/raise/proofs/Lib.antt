@@ -1,0 +1,4 @@
+pub mod Raises
+pub mod Spreads
+pub mod Spares
+pub mod Ends
