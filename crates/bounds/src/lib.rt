@@ -1,5 +1,7 @@
 //! The effective bounds of a store's ties, as a graph: every marker lies between the datum and the total depth.
 
+#![tactic(auto)]
+
 ghost use Rattle.std.specs.Prelude.{◌≡◌, ℕ};
 ghost use Rattle.law.specs.Standing.{bound_at, capped};
 ghost use Rattle.bounds.specs.Scopes.{in_scope};
@@ -14,7 +16,7 @@ pub mod scope;
 
 /// The lesser of the cap and a tie's amount, where there is a tie.
 pub fn capped<M: Measure>(measure: &M, cap: Amount, tie: Option<Amount>) -> Amount
-    requires cap { within 1 cap }
+    requires cap { M.within 1 cap }
     requires small { Small M.Measure tie }
     ensures { result ≡ capped M.Measure cap tie }
 {

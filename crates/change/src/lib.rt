@@ -1,5 +1,7 @@
 //! One weight of a graph is put, replaced or taken away: the new shortest-path tree, and how many of its rows are new.
 
+#![tactic(auto)]
+
 ghost use Rattle.std.specs.Prelude.{◌≡◌, ℕ, ◌<◌, Some, Decides};
 ghost use Rattle.measure.specs.declared.Amount.{Amount};
 ghost use Rattle.graph.specs.Graph.{PathTo};
@@ -25,8 +27,8 @@ pub use count::{moved, reparented};
 
 // Whether an amount is no more than what was, if anything was.
 fn falls<M: Measure>(measure: &M, new: Amount, before: Option<Amount>) -> bool
-    requires new { within 1 new }
-    requires before { (w : Amount) → before ≡ Some w → within 1 w }
+    requires new { M.within 1 new }
+    requires before { (w : Amount) → before ≡ Some w → M.within 1 w }
     ensures { Decides result (NoMore M.Measure new before) }
 {
     match before {
@@ -75,12 +77,12 @@ pub fn finish<G: Graph, M: Measure>(
     requires graph { Usable G.Graph M.Measure graph.now }
     requires same { old.now.n ≡ G.Graph.count graph.now }
     requires sizes { Deep M.Measure old.now.n 63 work.rows }
-    requires solved { Solved group old.now.n (weights G.Graph M.Measure graph.now) (depth M.Measure work.rows) (parents_of work.rows) }
+    requires solved { Solved M.group old.now.n (weights G.Graph M.Measure graph.now) (depth M.Measure work.rows) (parents_of work.rows) }
     ensures n { result.n ≡ old.now.n }
-    ensures solved { Solved group old.now.n (weights G.Graph M.Measure graph.now) (depth M.Measure result.rows) (parents_of result.rows) }
+    ensures solved { Solved M.group old.now.n (weights G.Graph M.Measure graph.now) (depth M.Measure result.rows) (parents_of result.rows) }
     ensures depths { Deep M.Measure old.now.n 63 result.rows }
     ensures kept { (m : ℕ) → m < old.now.n
-        → PathTo group old.now.n (weights G.Graph M.Measure graph.now) (path_to (parents_of old.now.rows) old.now.n m) m (depth M.Measure result.rows m)
+        → PathTo M.group old.now.n (weights G.Graph M.Measure graph.now) (path_to (parents_of old.now.rows) old.now.n m) m (depth M.Measure result.rows m)
         → path_to (parents_of result.rows) old.now.n m ≡ path_to (parents_of old.now.rows) old.now.n m }
 {
     restore(graph, measure, old, &mut work);

@@ -1,5 +1,7 @@
 //! Generated changes of ties. After each, the solver is compared with depths that are worked out afresh and plainly.
 
+#![tactic(auto)]
+
 #[cfg(test)]
 mod compare;
 #[cfg(test)]

@@ -1,5 +1,7 @@
 //! What is checked before anything is solved, and the write that a store then does not refuse.
 
+#![tactic(auto)]
+
 ghost use Rattle.std.specs.Prelude.{◌≡◌, []};
 ghost use Rattle.law.specs.Refusals.{bad_tie, first_bad_tie, lowest};
 ghost use Rattle.checks.specs.Refusing.{as_result, opening_refusal, pair_refusal, tie_refusal, untie_refusal};

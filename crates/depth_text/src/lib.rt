@@ -1,5 +1,7 @@
 //! The lines that the program writes, as bytes.
 
+#![tactic(auto)]
+
 ghost use Rattle.std.specs.Prelude.{◌∷◌, ◌++◌, map, length};
 ghost use Rattle.std.specs.Fmt.{signed_decimal};
 ghost use Rattle.depth_text.specs.Lines.{Adds, Named, line, row_line, contradiction_line, refused_line, name_in};

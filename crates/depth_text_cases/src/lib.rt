@@ -1,5 +1,7 @@
 //! Lines of the program's answer, byte for byte.
 
+#![tactic(auto)]
+
 #[cfg(test)]
 mod tests {
     use depth_text::{add_contradiction, add_refused, add_row};

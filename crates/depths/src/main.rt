@@ -1,6 +1,8 @@
 //! Reads a well's text from standard input, and writes its markers' depths, or a contradiction, or a refusal. An answer
 //! without depths ends the process with status 1.
 
+#![tactic(auto)]
+
 use anyhow::anyhow;
 use report::answer;
 use std::io::{Read, Write};

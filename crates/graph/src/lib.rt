@@ -1,5 +1,7 @@
 //! Graphs on markers: walks, cycles, distances, shortest-path trees, and what is true of them over any measure.
 
+#![tactic(auto)]
+
 ghost use Rattle.std.specs.Prelude.{◌≡◌, ℕ, Option};
 ghost use Rattle.measure.specs.declared.Amount.{Amount};
 

@@ -1,6 +1,8 @@
 //! A trial whose token goes back: the tie is tried and then left standing. Without the line that gives the token back this program
 //! does not compile.
 
+#![tactic(auto)]
+
 ghost use Rattle.std.specs.Prelude.{◌≡◌};
 ghost use Rattle.solver.specs.Suits.{Suits};
 

@@ -1,5 +1,7 @@
 //! The calls of a depth solver, their answers and refusals, and the law of every log of them. No solver is in it.
 
+#![tactic(auto)]
+
 pub mod call;
 pub mod code;
 pub mod theorems;

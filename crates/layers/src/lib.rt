@@ -1,5 +1,7 @@
 //! Stores over another store: the lock and the screen.
 
+#![tactic(auto)]
+
 pub mod lock;
 pub mod screen;
 

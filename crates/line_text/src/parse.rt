@@ -15,7 +15,7 @@ fn tie_amount(bytes: &[u8]) -> Option<(i64, bool)>
     match cut(bytes, b' ') {
         None => Some((millimetres(bytes)?, false)),
         Some((mm, mark)) => {
-            if mark == b"<" {
+            if mark == b"<".as_slice() {
                 Some((millimetres(mm)?, true))
             } else {
                 None

@@ -1,5 +1,7 @@
 //! A store that has a cell for every pair of markers.
 
+#![tactic(auto)]
+
 ghost use Rattle.std.specs.Prelude.{◌≡◌, ◌+◌, ◌-◌, ◌*◌, ◌<◌, ◌≤◌, true, length, is_some, Ok};
 ghost use Rattle.store.specs.Meaning.{empty_meaning, pair_answer, put_answer, put_done, clear_done};
 ghost use Rattle.matrix.specs.Laws.{matrix_lawful};

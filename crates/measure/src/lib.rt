@@ -1,5 +1,7 @@
 //! Amounts of depth, and the measures that add and compare them.
 
+#![tactic(auto)]
+
 pub mod order;
 mod plain;
 mod strict;

@@ -8,8 +8,8 @@ use std::cmp::Ordering;
 
 /// Whether `a` stands for no more than `b`.
 pub fn at_most<M: Measure>(measure: &M, a: Amount, b: Amount) -> bool
-    requires { (within 256 a) × (within 256 b) }
-    ensures { Decides result (group.le (value a) (value b)) }
+    requires { (M.within 256 a) × (M.within 256 b) }
+    ensures { Decides result (M.group.le (M.value a) (M.value b)) }
 {
     match measure.compare(a, b) {
         Ordering::Less | Ordering::Equal => true,
@@ -19,7 +19,7 @@ pub fn at_most<M: Measure>(measure: &M, a: Amount, b: Amount) -> bool
 
 /// The lesser of two amounts: the first, unless it stands for more than the second.
 pub fn least<M: Measure>(measure: &M, a: Amount, b: Amount) -> Amount
-    requires { (within 256 a) × (within 256 b) }
+    requires { (M.within 256 a) × (M.within 256 b) }
     ensures { result ≡ least M.Measure a b }
 {
     if at_most(measure, a, b) { a } else { b }

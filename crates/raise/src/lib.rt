@@ -1,5 +1,7 @@
 //! Shortest-path trees, kept up to date as bounds rise.
 
+#![tactic(auto)]
+
 ghost use Rattle.std.specs.Prelude.{◌≡◌, ◌+◌, ◌<◌};
 ghost use Rattle.graph.specs.Theorems.{Solved};
 ghost use Rattle.graph.specs.Weights.{Usable, weights};
@@ -25,9 +27,9 @@ fn started<G: Graph, M: Measure>(graph: &G, measure: &M, old: &DepthTable, b: u1
     requires same { old.now.n ≡ G.Graph.count graph.now }
     requires some { 0 < b }
     requires depths { Deep M.Measure old.now.n 63 old.now.rows }
-    requires risen { Risen group old.now.n (weights G.Graph M.Measure graph.now) b (depth M.Measure old.now.rows) (parents_of old.now.rows) }
+    requires risen { Risen M.group old.now.n (weights G.Graph M.Measure graph.now) b (depth M.Measure old.now.rows) (parents_of old.now.rows) }
     ensures sizes { Deep M.Measure old.now.n (64 + settled (flag result.done) old.now.n) result.rows }
-    ensures begun { Begun group old.now.n (weights G.Graph M.Measure graph.now) (depth M.Measure old.now.rows) (parents_of old.now.rows) (flag result.done) (depth M.Measure result.rows) (parents_of result.rows) }
+    ensures begun { Begun M.group old.now.n (weights G.Graph M.Measure graph.now) (depth M.Measure old.now.rows) (parents_of old.now.rows) (flag result.done) (depth M.Measure result.rows) (parents_of result.rows) }
 {
     let mut work = spared(graph, old, b);
     gather(graph, measure, old, &[false; 64], &mut work);
@@ -40,8 +42,8 @@ fn finished<G: Graph, M: Measure>(graph: &G, measure: &M, old: &DepthTable, mut 
     requires same { old.now.n ≡ G.Graph.count graph.now }
     requires depths { Deep M.Measure old.now.n 63 old.now.rows }
     requires sizes { Deep M.Measure old.now.n (64 + settled (flag work.done) old.now.n) work.rows }
-    requires begun { Begun group old.now.n (weights G.Graph M.Measure graph.now) (depth M.Measure old.now.rows) (parents_of old.now.rows) (flag work.done) (depth M.Measure work.rows) (parents_of work.rows) }
-    ensures solved { Solved group old.now.n (weights G.Graph M.Measure graph.now) (depth M.Measure result.rows) (parents_of result.rows) }
+    requires begun { Begun M.group old.now.n (weights G.Graph M.Measure graph.now) (depth M.Measure old.now.rows) (parents_of old.now.rows) (flag work.done) (depth M.Measure work.rows) (parents_of work.rows) }
+    ensures solved { Solved M.group old.now.n (weights G.Graph M.Measure graph.now) (depth M.Measure result.rows) (parents_of result.rows) }
     ensures depths { Deep M.Measure old.now.n 63 result.rows }
 {
     settle_rest(graph, measure, old, &[false; 64], &mut work);
@@ -54,8 +56,8 @@ pub fn raise<G: Graph, M: Measure>(graph: &G, measure: &M, old: &DepthTable, b: 
     requires same { old.now.n ≡ G.Graph.count graph.now }
     requires some { 0 < b }
     requires depths { Deep M.Measure old.now.n 63 old.now.rows }
-    requires risen { Risen group old.now.n (weights G.Graph M.Measure graph.now) b (depth M.Measure old.now.rows) (parents_of old.now.rows) }
-    ensures solved { Solved group old.now.n (weights G.Graph M.Measure graph.now) (depth M.Measure result.rows) (parents_of result.rows) }
+    requires risen { Risen M.group old.now.n (weights G.Graph M.Measure graph.now) b (depth M.Measure old.now.rows) (parents_of old.now.rows) }
+    ensures solved { Solved M.group old.now.n (weights G.Graph M.Measure graph.now) (depth M.Measure result.rows) (parents_of result.rows) }
     ensures depths { Deep M.Measure old.now.n 63 result.rows }
 {
     let work = started(graph, measure, old, b);

@@ -26,9 +26,9 @@ pub fn gather<G: Graph, M: Measure>(
     requires sizes { Deep M.Measure old.now.n 64 work.old.rows }
     requires kept { (z : ℕ) → z < old.now.n → flag work.old.done z ≡ true → M.Measure.within 63 (deep work.old.rows z) }
     requires free { (z : ℕ) → flag up.now z ≡ false }
-    ensures gathered { Rises group old.now.n (weights G.Graph M.Measure graph.now) (depth M.Measure old.now.rows) (parents_of old.now.rows) (flag work.old.done)
-        → Gathered group old.now.n (weights G.Graph M.Measure graph.now) (depth M.Measure old.now.rows) (parents_of old.now.rows) (flag work.old.done) 0 (depth M.Measure work.old.rows) (parents_of work.old.rows)
-        → Gathered group old.now.n (weights G.Graph M.Measure graph.now) (depth M.Measure old.now.rows) (parents_of old.now.rows) (flag work.old.done) old.now.n (depth M.Measure work.new.rows) (parents_of work.new.rows) }
+    ensures gathered { Rises M.group old.now.n (weights G.Graph M.Measure graph.now) (depth M.Measure old.now.rows) (parents_of old.now.rows) (flag work.old.done)
+        → Gathered M.group old.now.n (weights G.Graph M.Measure graph.now) (depth M.Measure old.now.rows) (parents_of old.now.rows) (flag work.old.done) 0 (depth M.Measure work.old.rows) (parents_of work.old.rows)
+        → Gathered M.group old.now.n (weights G.Graph M.Measure graph.now) (depth M.Measure old.now.rows) (parents_of old.now.rows) (flag work.old.done) old.now.n (depth M.Measure work.new.rows) (parents_of work.new.rows) }
     ensures done { work.new.done ≡ work.old.done }
     ensures sizes { Deep M.Measure old.now.n 64 work.new.rows }
 {
@@ -53,9 +53,9 @@ pub fn settle_rest<G: Graph, M: Measure>(
     requires sizes { Deep M.Measure old.now.n (64 + settled (flag work.old.done) old.now.n) work.old.rows }
     requires free { (z : ℕ) → flag up.now z ≡ false }
     ensures solved { (K : ℕ → Bool)
-        → Rises group old.now.n (weights G.Graph M.Measure graph.now) (depth M.Measure old.now.rows) (parents_of old.now.rows) K
-        → Spreading group old.now.n (weights G.Graph M.Measure graph.now) (depth M.Measure old.now.rows) (parents_of old.now.rows) K (flag work.old.done) (depth M.Measure work.old.rows) (parents_of work.old.rows)
-        → Solved group old.now.n (weights G.Graph M.Measure graph.now) (depth M.Measure work.new.rows) (parents_of work.new.rows) }
+        → Rises M.group old.now.n (weights G.Graph M.Measure graph.now) (depth M.Measure old.now.rows) (parents_of old.now.rows) K
+        → Spreading M.group old.now.n (weights G.Graph M.Measure graph.now) (depth M.Measure old.now.rows) (parents_of old.now.rows) K (flag work.old.done) (depth M.Measure work.old.rows) (parents_of work.old.rows)
+        → Solved M.group old.now.n (weights G.Graph M.Measure graph.now) (depth M.Measure work.new.rows) (parents_of work.new.rows) }
     ensures sizes { Deep M.Measure old.now.n 128 work.new.rows }
 {
     while let Some(y) = nearest(measure, old, work) {

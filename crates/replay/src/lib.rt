@@ -1,5 +1,7 @@
 //! Lists of calls, made one after another, with their answers filled in.
 
+#![tactic(auto)]
+
 ghost use Rattle.std.specs.Prelude.{◌≡◌, ℕ, slice_index_or};
 ghost use Rattle.law.specs.Telling.{Ran};
 ghost use Rattle.solver.specs.Model.{model};

@@ -1,5 +1,7 @@
 //! The answer to a well's text, as bytes: the depths of its markers, or a contradiction, or a refusal.
 
+#![tactic(auto)]
+
 ghost use Rattle.std.specs.Prelude.{◌≡◌, length, IfOk};
 ghost use Rattle.report.specs.Reports.{Reports};
 

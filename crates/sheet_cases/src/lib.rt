@@ -1,5 +1,7 @@
 //! Cases of a well's text: each code where it just comes, and where it just does not.
 
+#![tactic(auto)]
+
 #[cfg(test)]
 mod tests {
     use measure::Amount;

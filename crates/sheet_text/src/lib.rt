@@ -1,5 +1,7 @@
 //! Reads a well's text: the total depth, the markers' names and the ties.
 
+#![tactic(auto)]
+
 pub mod codes;
 pub mod faults;
 pub mod header;

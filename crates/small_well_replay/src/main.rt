@@ -1,6 +1,8 @@
 //! One log on a small well, over several stores: a line for each call with its answer, and then the depths of the markers 1 and 2 with
 //! their parents. The whole log is made by one call of `replay_new`.
 
+#![tactic(auto)]
+
 ghost use Rattle.std.specs.Prelude.{◌≡◌};
 
 use law::{Answer, Call, Entry, Refusal};

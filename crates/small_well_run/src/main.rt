@@ -1,5 +1,7 @@
 //! The calls on one small well, a line for each: its answer, and then the depths of the markers 1 and 2 with their parents.
 
+#![tactic(auto)]
+
 ghost use Rattle.solver.specs.Suits.{Suits};
 
 use law::Refusal;

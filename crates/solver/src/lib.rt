@@ -1,5 +1,7 @@
 //! The depth solver, over any store of ties and any measure.
 
+#![tactic(auto)]
+
 pub mod adopt;
 pub mod check;
 pub mod new;

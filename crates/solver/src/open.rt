@@ -60,7 +60,7 @@ impl<S: TieStore, M: Measure> Solver<S, M> {
     fn solve(&self, cycle: &mut [u16]) -> Result<DepthTable, u16>
         requires sound { S.TieStore.sound self.now.store }
         requires limits { BoundsSound M.Measure self.now.total (S.TieStore.meaning self.now.store).tie }
-        requires deep { Lt group group.neutral (value self.now.total) }
+        requires deep { Lt M.group M.group.neutral (M.value self.now.total) }
         requires room { (S.TieStore.meaning self.now.store).count ≤ length cycle.old }
         ensures { Solves M.Measure self.now.total (S.TieStore.meaning self.now.store).count (S.TieStore.meaning self.now.store).tie cycle.old cycle.new result }
     {

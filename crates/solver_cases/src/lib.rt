@@ -1,5 +1,7 @@
 //! Openings and readings at the edges of the rules.
 
+#![tactic(auto)]
+
 #[cfg(test)]
 mod tests {
     use law::Refusal;

@@ -1,5 +1,7 @@
 //! The table of a store's ties: solved from nothing, and after a change of one tie.
 
+#![tactic(auto)]
+
 pub mod next;
 pub mod open;
 

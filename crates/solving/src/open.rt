@@ -58,7 +58,7 @@ fn insert<'s, S: TieStore, M: Measure>(
 fn start<'s, S: TieStore, M: Measure>(store: &'s S, measure: &'s M, total: Amount) -> DepthTable
     requires sound { S.TieStore.sound store.now }
     requires limits { BoundsSound M.Measure total (S.TieStore.meaning store.now).tie }
-    requires deep { Lt group group.neutral (value total) }
+    requires deep { Lt M.group M.group.neutral (M.value total) }
     ensures { TableSuits M.Measure total (S.TieStore.meaning store.now).count (in_scope (S.TieStore.meaning store.now).tie (scope.First 0)) result }
 {
     DepthTable::flat(store.marker_count(), measure.zero(), total)
@@ -98,7 +98,7 @@ pub fn solve<'s, S: TieStore, M: Measure>(
 ) -> Result<DepthTable, u16>
     requires sound { S.TieStore.sound store.now }
     requires limits { BoundsSound M.Measure total (S.TieStore.meaning store.now).tie }
-    requires deep { Lt group group.neutral (value total) }
+    requires deep { Lt M.group M.group.neutral (M.value total) }
     requires room { (S.TieStore.meaning store.now).count ≤ length cycle.old }
     ensures { Solves M.Measure total (S.TieStore.meaning store.now).count (S.TieStore.meaning store.now).tie cycle.old cycle.new result }
 {

@@ -1,5 +1,7 @@
 //! Ties between markers: the interface of a store that holds them, and the list, which is one.
 
+#![tactic(auto)]
+
 pub mod list;
 
 ghost use Rattle.std.specs.Prelude.{◌≡◌, Ok};

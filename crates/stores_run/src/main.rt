@@ -1,6 +1,8 @@
 //! One list of calls on eight stores, their answers side by side: a list and a matrix, each alone, under a lock, under a screen, and
 //! under both. Then screens that are taken off, bit 63, and the sizes that a store may have.
 
+#![tactic(auto)]
+
 mod call;
 mod edges;
 mod stores;

@@ -1,5 +1,7 @@
 //! The table of depths and parents, and its paths.
 
+#![tactic(auto)]
+
 pub mod climb;
 pub mod row;
 pub mod table;

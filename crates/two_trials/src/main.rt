@@ -1,6 +1,8 @@
 //! Two trials, each with a token of its own: the first tie is kept, the second taken back. With one token for both this program does
 //! not compile.
 
+#![tactic(auto)]
+
 ghost use Rattle.std.specs.Prelude.{◌≡◌};
 ghost use Rattle.solver.specs.Suits.{Suits};
 

@@ -1,5 +1,7 @@
 //! Shortest-path trees, kept up to date as the bound of one pair falls.
 
+#![tactic(auto)]
+
 pub mod lower;
 pub mod nearest;
 pub mod relax;

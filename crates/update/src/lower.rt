@@ -27,10 +27,10 @@ fn settle_fallen<G: Graph, M: Measure>(
     requires same { old.now.n ≡ G.Graph.count graph.now }
     requires depths { Deep M.Measure old.now.n 63 old.now.rows }
     requires sizes { Deep M.Measure old.now.n (64 + settled (flag work.old.done) old.now.n) work.old.rows }
-    ensures outcome { (w : Weight group) (a b : ℕ) (c : group.carrier)
-        → Falls group old.now.n w (weights G.Graph M.Measure graph.now) a b c (depth M.Measure old.now.rows) (parents_of old.now.rows) (flag up.now)
-        → Growing group old.now.n w (weights G.Graph M.Measure graph.now) a b c (depth M.Measure old.now.rows) (parents_of old.now.rows) (flag up.now) (flag work.old.done) (depth M.Measure work.old.rows) (parents_of work.old.rows)
-        → Settlement group old.now.n (weights G.Graph M.Measure graph.now) a b (depth M.Measure work.new.rows) (parents_of work.new.rows) result }
+    ensures outcome { (w : Weight M.group) (a b : ℕ) (c : M.group.carrier)
+        → Falls M.group old.now.n w (weights G.Graph M.Measure graph.now) a b c (depth M.Measure old.now.rows) (parents_of old.now.rows) (flag up.now)
+        → Growing M.group old.now.n w (weights G.Graph M.Measure graph.now) a b c (depth M.Measure old.now.rows) (parents_of old.now.rows) (flag up.now) (flag work.old.done) (depth M.Measure work.old.rows) (parents_of work.old.rows)
+        → Settlement M.group old.now.n (weights G.Graph M.Measure graph.now) a b (depth M.Measure work.new.rows) (parents_of work.new.rows) result }
     ensures sizes { Deep M.Measure old.now.n 128 work.new.rows }
 {
     while let Some(y) = nearest(measure, old, work) {
@@ -61,9 +61,9 @@ fn stands<G: Graph, M: Measure>(
     requires end { b < old.now.n }
     requires edge { G.Graph.weight graph.now a b ≡ Some w }
     requires depths { Deep M.Measure old.now.n 63 old.now.rows }
-    requires standing { SolvedBefore group old.now.n (weights G.Graph M.Measure graph.now) a b (value w) (depth M.Measure old.now.rows) (parents_of old.now.rows) }
+    requires standing { SolvedBefore M.group old.now.n (weights G.Graph M.Measure graph.now) a b (M.value w) (depth M.Measure old.now.rows) (parents_of old.now.rows) }
     ensures { MatchBool result
-        (Solved group old.now.n (weights G.Graph M.Measure graph.now) (depth M.Measure old.now.rows) (parents_of old.now.rows))
+        (Solved M.group old.now.n (weights G.Graph M.Measure graph.now) (depth M.Measure old.now.rows) (parents_of old.now.rows))
         (Deeper M.Measure old.now.rows a b w) }
 {
     let sum = measure.sum(old.depth(a), w);
@@ -85,7 +85,7 @@ fn fall<G: Graph, M: Measure>(
     requires end { b < old.now.n }
     requires edge { G.Graph.weight graph.now a b ≡ Some w }
     requires depths { Deep M.Measure old.now.n 63 old.now.rows }
-    requires standing { SolvedBefore group old.now.n (weights G.Graph M.Measure graph.now) a b (value w) (depth M.Measure old.now.rows) (parents_of old.now.rows) }
+    requires standing { SolvedBefore M.group old.now.n (weights G.Graph M.Measure graph.now) a b (M.value w) (depth M.Measure old.now.rows) (parents_of old.now.rows) }
     requires falls { Deeper M.Measure old.now.rows a b w }
     ensures { Lowers M.Measure old.now.n (weights G.Graph M.Measure graph.now) a b old.now.rows result }
 {
@@ -124,7 +124,7 @@ pub fn lower<G: Graph, M: Measure>(
     requires end { b < old.now.n }
     requires edge { G.Graph.weight graph.now a b ≡ Some w }
     requires depths { Deep M.Measure old.now.n 63 old.now.rows }
-    requires standing { SolvedBefore group old.now.n (weights G.Graph M.Measure graph.now) a b (value w) (depth M.Measure old.now.rows) (parents_of old.now.rows) }
+    requires standing { SolvedBefore M.group old.now.n (weights G.Graph M.Measure graph.now) a b (M.value w) (depth M.Measure old.now.rows) (parents_of old.now.rows) }
     ensures { Lowers M.Measure old.now.n (weights G.Graph M.Measure graph.now) a b old.now.rows result }
 {
     if stands(graph, measure, old, a, b, w) {

@@ -12,7 +12,7 @@ fn leads<M: Measure>(measure: &M, old: &DepthTable, work: &Work, y: u16, z: u16)
     requires labels { Deep M.Measure old.now.n 128 work.now.rows }
     requires first { y < old.now.n }
     requires second { z < old.now.n }
-    ensures { Decides result (group.le (group.plus (depth M.Measure work.now.rows y) (depth M.Measure old.now.rows z)) (group.plus (depth M.Measure work.now.rows z) (depth M.Measure old.now.rows y))) }
+    ensures { Decides result (M.group.le (M.group.plus (depth M.Measure work.now.rows y) (depth M.Measure old.now.rows z)) (M.group.plus (depth M.Measure work.now.rows z) (depth M.Measure old.now.rows y))) }
 {
     let first = measure.sum(work.rows[y as usize].depth, old.depth(z));
     let second = measure.sum(work.rows[z as usize].depth, old.depth(y));

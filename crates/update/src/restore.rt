@@ -18,7 +18,7 @@ fn tight<G: Graph, M: Measure>(graph: &G, measure: &M, work: &Work, x: u16, z: u
     requires start { x < G.Graph.count graph.now }
     requires end { z < G.Graph.count graph.now }
     requires sizes { Deep M.Measure (G.Graph.count graph.now) 128 work.now.rows }
-    ensures { Decides result (TightEdge group (G.Graph.count graph.now) (weights G.Graph M.Measure graph.now) (depth M.Measure work.now.rows) x z) }
+    ensures { Decides result (TightEdge M.group (G.Graph.count graph.now) (weights G.Graph M.Measure graph.now) (depth M.Measure work.now.rows) x z) }
 {
     match graph.weight(x, z) {
         Some(w) => {
@@ -42,7 +42,7 @@ fn path_stands<G: Graph, M: Measure>(
     requires same { old.now.n ≡ G.Graph.count graph.now }
     requires marker { m < old.now.n }
     requires sizes { Deep M.Measure old.now.n 128 work.now.rows }
-    ensures { Decides result (Stands group old.now.n (weights G.Graph M.Measure graph.now) (depth M.Measure work.now.rows) (parents_of old.now.rows) m) }
+    ensures { Decides result (Stands M.group old.now.n (weights G.Graph M.Measure graph.now) (depth M.Measure work.now.rows) (parents_of old.now.rows) m) }
 {
     let mut here = m;
     while here != 0 {
@@ -60,12 +60,12 @@ pub fn restore<G: Graph, M: Measure>(graph: &G, measure: &M, old: &DepthTable, w
     requires graph { Usable G.Graph M.Measure graph.now }
     requires same { old.now.n ≡ G.Graph.count graph.now }
     requires sizes { Deep M.Measure old.now.n 63 work.old.rows }
-    requires solved { Solved group old.now.n (weights G.Graph M.Measure graph.now) (depth M.Measure work.old.rows) (parents_of work.old.rows) }
+    requires solved { Solved M.group old.now.n (weights G.Graph M.Measure graph.now) (depth M.Measure work.old.rows) (parents_of work.old.rows) }
     ensures depths { (z : ℕ) → deep work.new.rows z ≡ deep work.old.rows z }
     ensures done { work.new.done ≡ work.old.done }
-    ensures solved { Solved group old.now.n (weights G.Graph M.Measure graph.now) (depth M.Measure work.new.rows) (parents_of work.new.rows) }
+    ensures solved { Solved M.group old.now.n (weights G.Graph M.Measure graph.now) (depth M.Measure work.new.rows) (parents_of work.new.rows) }
     ensures kept { (m : ℕ) → m < old.now.n
-        → PathTo group old.now.n (weights G.Graph M.Measure graph.now) (path_to (parents_of old.now.rows) old.now.n m) m (depth M.Measure work.new.rows m)
+        → PathTo M.group old.now.n (weights G.Graph M.Measure graph.now) (path_to (parents_of old.now.rows) old.now.n m) m (depth M.Measure work.new.rows m)
         → path_to (parents_of work.new.rows) old.now.n m ≡ path_to (parents_of old.now.rows) old.now.n m }
 {
     for m in 0..old.n() {

@@ -3,7 +3,7 @@ use Rattle.table.specs.Climb.{up as parents_of}
 use Rattle.change.specs.Changing.{NoLess}
 use Rattle.change.proofs.Changes.{no_contradiction, more_no_less, gone_no_less, risen, still_solved}
 use Rattle.change.proofs.change.Goals as goal
-use Rattle.change.proofs.change.Goals.{in-Some+else-falls, in-default, then-b-eq0-via-then-b-eq0, then-b-eq0-via-else-b-eq0+then-parent-a}
+use Rattle.change.proofs.change.Goals.{in-Some+else-falls, in_default, then-b-eq0-via-then-b-eq0, then-b-eq0-via-else-b-eq0+then-parent-a}
 
 pub returns-then-falls : goal.returns-then-falls
 returns-then-falls g c =
@@ -23,7 +23,7 @@ returns-then-b-eq0 g c =
     let b = c.args.b in
     let rises : NoLess m (s.weight x a b) c.args.before = elim c.match-weight.branch [
       | in-Some+else-falls w ↦ more_no_less m (s.weight x a b) c.args.before w.in-Some.w (sym w.in-Some.ensures) (λ h. true≢false (sym (w.falls.ensures.1 h) ∙ w.if-falls.false))
-      | in-default w ↦ gone_no_less m (s.weight x a b) c.args.before (sym c.weight.ensures ∙ w.in-default.is)
+      | in_default w ↦ gone_no_less m (s.weight x a b) c.args.before (sym c.weight.ensures ∙ w.in_default.is)
     ] in
     let apart : 0 < b → ¬ (parents_of old.rows b ≡ a) = elim c.then-b-eq0.branch [
       | then-b-eq0-via-then-b-eq0 w ↦ (λ pos e. omega (arith, w.if-b-eq0.true))
@@ -41,7 +41,7 @@ raise-requires g c =
     let b = c.args.b in
     let rises : NoLess m (s.weight x a b) c.args.before = elim c.match-weight.branch [
       | in-Some+else-falls w ↦ more_no_less m (s.weight x a b) c.args.before w.in-Some.w (sym w.in-Some.ensures) (λ h. true≢false (sym (w.falls.ensures.1 h) ∙ w.if-falls.false))
-      | in-default w ↦ gone_no_less m (s.weight x a b) c.args.before (sym c.weight.ensures ∙ w.in-default.is)
+      | in_default w ↦ gone_no_less m (s.weight x a b) c.args.before (sym c.weight.ensures ∙ w.in_default.is)
     ] in
     record {
       graph = c.requires.graph;

@@ -2,7 +2,7 @@ use Rattle.std.proofs.Common.{arith}
 use Rattle.measure.proofs.Within.{wider_to}
 use Rattle.change.proofs.falls.Goals as goal
 
-pub at-most-requires : goal.at-most-requires
-at-most-requires g c =
+pub at_most-requires : goal.at_most-requires
+at_most-requires g c =
     let wider = g.M.Measure.laws.wider in
     (wider_to wider 1 256 _ (omega arith) c.requires.new, wider_to wider 1 256 _ (omega arith) (c.requires.before c.in-Some.old c.in-Some.is))

@@ -1,7 +1,7 @@
 use Rattle.replay.proofs.Holding.{trial_holds}
 use Rattle.kept_trial.proofs.keep.Goals as goal
 
-pub keep-trial-requires : goal.keep-trial-requires
-keep-trial-requires g c =
+pub keep_trial-requires : goal.keep_trial-requires
+keep_trial-requires g c =
     let done = c.in-Ok.ensures in
     record { suits = done.suits; holds = trial_holds g.M.Measure _ _ _ _ _ _ _ _ _ _ c.in-Ok.token done.answered done.numbered }

@@ -8,8 +8,8 @@ use Rattle.update.proofs.Rows.{no_flag}
 use Rattle.update.proofs.Shrinks.{shrunk}
 use Rattle.raise.proofs.finished.Goals as goal
 
-pub settle-rest-requires : goal.settle-rest-requires
-settle-rest-requires g c =
+pub settle_rest-requires : goal.settle_rest-requires
+settle_rest-requires g c =
     record { graph = c.requires.graph; same = c.requires.same; depths = c.requires.depths; sizes = c.requires.sizes; free = no_flag 64 }
 
 pub returns : goal.returns
@@ -18,8 +18,8 @@ returns g c =
     let m = g.M.Measure in
     let old = c.args.old.now in
     let x = c.args.graph.now in
-    let end = c.settle-rest.new.work in
+    let end = c.settle_rest.new.work in
     let begun = c.requires.begun in
-    let solved : Solved m.group old.n (weights s m x) (depth m end.rows) (parents_of end.rows) = c.settle-rest.ensures.solved begun.0 begun.1 begun.2 in
-    let sizes : Deep m old.n 256 end.rows = λ z h. wider_to m.laws.wider 128 256 (deep end.rows z) (omega arith) (c.settle-rest.ensures.sizes z h) in
+    let solved : Solved m.group old.n (weights s m x) (depth m end.rows) (parents_of end.rows) = c.settle_rest.ensures.solved begun.0 begun.1 begun.2 in
+    let sizes : Deep m old.n 256 end.rows = λ z h. wider_to m.laws.wider 128 256 (deep end.rows z) (omega arith) (c.settle_rest.ensures.sizes z h) in
     record { solved = solved; depths = shrunk s m x old.n end.rows (parents_of end.rows) c.requires.graph.small solved sizes old.few }

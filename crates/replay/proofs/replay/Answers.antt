@@ -10,9 +10,9 @@ loop-i-preserved g c =
     let μ = g.M.Measure in
     let l = c.loop-i in
     let h : c.loop-i.i < length c.loop-i.entries = omega arith in
-    let made = c.answer-to-answer.ensures.made in (
-      c.answer-to-answer.ensures.suits,
-      c.answer-to-answer.ensures.holds,
+    let made = c.answer_to-answer.ensures.made in (
+      c.answer_to-answer.ensures.suits,
+      c.answer_to-answer.ensures.holds,
       reached_more μ _ _ _ l.entries l.i _ h made l.invariant.2,
       replayed_more μ _ _ _ l.entries l.i _ h made l.invariant.3,
       calls_more l.entries _ l.i _ h c.cap-entry.ensures l.invariant.5 l.invariant.4,

@@ -1,12 +1,12 @@
 use Rattle.replay.proofs.Holding.{trial_holds}
 use Rattle.two_trials.proofs.try_both.Goals as goal
 
-pub keep-trial-requires : goal.keep-trial-requires
-keep-trial-requires g c =
+pub keep_trial-requires : goal.keep_trial-requires
+keep_trial-requires g c =
     let done = c.in-Ok.ensures in
     record { suits = done.suits; holds = trial_holds g.M.Measure _ _ _ _ _ _ _ _ _ _ c.in-Ok.kept done.answered done.numbered }
 
-pub end-trial-requires : goal.end-trial-requires
-end-trial-requires g c =
+pub end_trial-requires : goal.end_trial-requires
+end_trial-requires g c =
     let done = c.in-Ok-trial.ensures in
     record { suits = done.suits; holds = trial_holds g.M.Measure _ _ _ _ _ _ _ _ _ _ c.in-Ok-trial.tried done.answered done.numbered }

@@ -5,8 +5,8 @@ use Rattle.change.proofs.Tallies.{tally_at_most, tally_yes, tally_no, other_pare
 use Rattle.change.proofs.count.reparented.Goals as goal
 use Rattle.change.proofs.count.reparented.Goals.{then-parent, else-parent}
 
-pub overflow-add-parents : goal.overflow-add-parents
-overflow-add-parents c =
+pub overflow_add-parents : goal.overflow_add-parents
+overflow_add-parents c =
     let few : tally c.loop-m.m (λ k. not (eqb (parents_of c.args.old.now.rows k) (parents_of c.args.new.now.rows k))) ≤ c.loop-m.m = tally_at_most (λ k. not (eqb (parents_of c.args.old.now.rows k) (parents_of c.args.new.now.rows k))) c.loop-m.m in
     omega (arith, few, c.loop-m.invariant, c.loop-m-test.true, c.n-m-end.ensures, c.args.old.now.few)
 

@@ -8,22 +8,22 @@ use Rattle.std.proofs.lemmas.Bool.Decides.{nat_tests}
 use Rattle.line_text.proofs.Numerals.{none_empty, none_long, none_zero, none_other, none_past, spelt, so_far}
 use Rattle.line_text.proofs.numbers.number.Goals as goal
 
-pub returns-then-is-empty : goal.returns-then-is-empty
-returns-then-is-empty c =
+pub returns-then-is_empty : goal.returns-then-is_empty
+returns-then-is_empty c =
     search (rules, none_empty c.args.limit c.requires c.args.bytes.now, none_long c.args.limit c.requires c.args.bytes.now)
 
 pub returns-then-bytes-gt1 : goal.returns-then-bytes-gt1
 returns-then-bytes-gt1 c = none_zero c.args.limit c.requires c.args.bytes.now (omega arith) (omega arith)
 
-pub returns-then-not-is-ascii-digit : goal.returns-then-not-is-ascii-digit
-returns-then-not-is-ascii-digit c = none_other c.args.limit c.requires c.args.bytes.now c.loop-b.b-index (omega arith) (grind (arith, nat_tests))
+pub returns-then-not-is_ascii_digit : goal.returns-then-not-is_ascii_digit
+returns-then-not-is_ascii_digit c = none_other c.args.limit c.requires c.args.bytes.now c.loop-b.b-index (omega arith) (grind (arith, nat_tests))
 
-pub overflow-mul-value : goal.overflow-mul-value
-overflow-mul-value c = omega (arith, so_far c.args.bytes.now c.loop-b.b-index c.loop-b.invariant.0 (omega arith) (omega arith))
+pub overflow_mul-value : goal.overflow_mul-value
+overflow_mul-value c = omega (arith, so_far c.args.bytes.now c.loop-b.b-index c.loop-b.invariant.0 (omega arith) (omega arith))
 
-pub overflow-add-value : goal.overflow-add-value
-overflow-add-value c =
-    omega (arith, so_far c.args.bytes.now c.loop-b.b-index c.loop-b.invariant.0 (omega arith) (omega arith), c.type-inv.bytes c.loop-b.b-index)
+pub overflow_add-value : goal.overflow_add-value
+overflow_add-value c =
+    omega (arith, so_far c.args.bytes.now c.loop-b.b-index c.loop-b.invariant.0 (omega arith) (omega arith), c.type_inv.bytes c.loop-b.b-index)
 
 pub loop-b-preserved : goal.loop-b-preserved
 loop-b-preserved c =

@@ -3,8 +3,8 @@ use Rattle.store.proofs.Calls.{passed}
 use Rattle.matrix.proofs.Squares.{some_ties, gone_after, gone_sound}
 use Rattle.matrix.proofs.TieMatrix.empty_cell.Goals as goal
 
-pub overflow-sub-self : goal.overflow-sub-self
-overflow-sub-self c = some_ties _ _ _ c.args.a c.args.b c.place.result c.requires.sound (passed _ _ _ c.requires.pair) c.place.ensures.at c.requires.tied
+pub overflow_sub-self : goal.overflow_sub-self
+overflow_sub-self c = some_ties _ _ _ c.args.a c.args.b c.place.result c.requires.sound (passed _ _ _ c.requires.pair) c.place.ensures.at c.requires.tied
 
 pub returns : goal.returns
 returns c = record {

@@ -6,6 +6,6 @@ use Rattle.measure.proofs.strict.add.Goals as goal
 
 pub returns : goal.returns
 returns c i j le within_a within_b =
-    let mm = exact 63 (c.args.a.mm +ℤ c.args.b.mm) _ _ c.saturating-add.ensures (omega (arith, ints)) (omega (arith, ints), omega (arith, ints)) in
-    let marks = exact 31 (c.args.a.marks +ℤ c.args.b.marks) _ _ c.saturating-add-2.ensures (omega (arith, ints)) (omega (arith, ints), omega (arith, ints)) in
+    let mm = exact 63 (c.args.a.mm +ℤ c.args.b.mm) _ _ c.saturating_add.ensures (omega (arith, ints)) (omega (arith, ints), omega (arith, ints)) in
+    let marks = exact 31 (c.args.a.marks +ℤ c.args.b.marks) _ _ c.saturating_add-2.ensures (omega (arith, ints)) (omega (arith, ints), omega (arith, ints)) in
     (((omega (arith, ints), omega (arith, ints)), (omega (arith, ints), omega (arith, ints))), both _ _ (omega (arith, ints)) (omega (arith, ints)))

@@ -7,8 +7,8 @@ use Rattle.raise.proofs.Spreads.{Gathers, gathers_all, gathers_next, gathers_ski
 use Rattle.raise.proofs.settle.gather.Goals as goal
 use Rattle.raise.proofs.settle.gather.Goals.{then-work-x, else-work-x}
 
-pub relax-from-requires : goal.relax-from-requires
-relax-from-requires g c =
+pub relax_from-requires : goal.relax_from-requires
+relax_from-requires g c =
     let wider = g.M.Measure.laws.wider in
     let inside : c.loop-x.x < c.args.old.now.n = omega arith in
     record {
@@ -35,17 +35,17 @@ loop-x-preserved g c =
     × ((free : (z : ℕ) → flag up z ≡ false) → Gathers s m gr old.n old.rows up free start v (x + 1)) in
     elim c.if-work-x.branch [
       | then-work-x v ↦
-          let told = v.relax-from.ensures in
-          let next = v.relax-from.new.work in
-          let sizes : (z : ℕ) → z < old.n → m.within 64 (deep v.relax-from.new.work.rows z) = λ z h.
+          let told = v.relax_from.ensures in
+          let next = v.relax_from.new.work in
+          let sizes : (z : ℕ) → z < old.n → m.within 64 (deep v.relax_from.new.work.rows z) = λ z h.
           told.sizes 63 (omega arith) (c.loop-x.invariant.2 x inside v.if-work-x.true)
           (λ u l. c.loop-x.invariant.1 u (subst (λ (k : ℕ). u < k) (sym c.requires.same) l)) z (subst (λ (k : ℕ). z < k) c.requires.same h) in
           subst goal (sym v.work-is) (
             told.done ∙ c.loop-x.invariant.0,
             sizes,
             (λ z h d. let was = sym (ap (λ (b : List Bool). flag b z) told.done) ∙ d in
-                kept_small s m gr old.n old.rows up c.requires.free now next x v.relax-from.result told.relaxed z was (c.loop-x.invariant.2 z h was) (sizes z h)),
-            (λ free. gathers_next s m gr old.n old.rows up free c.requires.same start now next x v.relax-from.result (c.loop-x.invariant.3 free) c.loop-x.invariant.0 v.if-work-x.true told.relaxed),
+                kept_small s m gr old.n old.rows up c.requires.free now next x v.relax_from.result told.relaxed z was (c.loop-x.invariant.2 z h was) (sizes z h)),
+            (λ free. gathers_next s m gr old.n old.rows up free c.requires.same start now next x v.relax_from.result (c.loop-x.invariant.3 free) c.loop-x.invariant.0 v.if-work-x.true told.relaxed),
           )
       | else-work-x v ↦
           subst goal (sym v.work-is) (

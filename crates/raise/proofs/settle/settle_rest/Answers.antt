@@ -12,8 +12,8 @@ nearest-requires g c =
       labels = room_to g.G.Graph g.M.Measure c.args.graph.now old.n old.rows c.args.up.now old.few c.loop-y.work c.loop-y.invariant.0 128 (omega arith);
     }
 
-pub relax-from-requires : goal.relax-from-requires
-relax-from-requires g c =
+pub relax_from-requires : goal.relax_from-requires
+relax_from-requires g c =
     let old = c.args.old.now in
     let pick = c.in-Some.ensures in
     let to = room_to g.G.Graph g.M.Measure c.args.graph.now old.n old.rows c.args.up.now old.few c.loop-y.work c.loop-y.invariant.0 in
@@ -30,19 +30,19 @@ pub loop-y-smaller : goal.loop-y-smaller
 loop-y-smaller g c =
     let old = c.args.old.now in
     let long : c.in-Some.y < length c.loop-y.work.done = search rules in
-    less g.G.Graph g.M.Measure c.args.graph.now old.n old.rows c.args.up.now old.few c.requires.same c.loop-y.work c.relax-from.new.work c.in-Some.y
-    c.loop-y.invariant.0 c.in-Some.ensures long c.relax-from.ensures.done
+    less g.G.Graph g.M.Measure c.args.graph.now old.n old.rows c.args.up.now old.few c.requires.same c.loop-y.work c.relax_from.new.work c.in-Some.y
+    c.loop-y.invariant.0 c.in-Some.ensures long c.relax_from.ensures.done
 
 pub loop-y-preserved : goal.loop-y-preserved
 loop-y-preserved g c =
     let s = g.G.Graph in
     let m = g.M.Measure in
     let old = c.args.old.now in
-    let told = c.relax-from.ensures in
+    let told = c.relax_from.ensures in
     let long : c.in-Some.y < length c.loop-y.work.done = search rules in (
-      room_next s m c.args.graph.now old.n old.rows c.args.up.now old.few c.requires.same c.loop-y.work c.relax-from.new.work c.in-Some.y
+      room_next s m c.args.graph.now old.n old.rows c.args.up.now old.few c.requires.same c.loop-y.work c.relax_from.new.work c.in-Some.y
           c.loop-y.invariant.0 c.in-Some.ensures long told.done told.sizes,
-      λ free. spreads_next s m c.args.graph.now old.n old.rows c.args.up.now free c.requires.same c.args.work.now c.loop-y.work c.relax-from.new.work c.in-Some.y c.relax-from.result
+      λ free. spreads_next s m c.args.graph.now old.n old.rows c.args.up.now free c.requires.same c.args.work.now c.loop-y.work c.relax_from.new.work c.in-Some.y c.relax_from.result
           (c.loop-y.invariant.1 free) c.in-Some.ensures long told.done told.relaxed,
     )
 
@@ -50,6 +50,6 @@ pub returns : goal.returns
 returns g c =
     let old = c.args.old.now in
     record {
-      solved = spread_all g.G.Graph g.M.Measure c.args.graph.now old.n old.rows c.args.up.now c.requires.free c.args.work.now c.loop-y.work (c.loop-y.invariant.1 c.requires.free) old.some c.in-default.ensures;
+      solved = spread_all g.G.Graph g.M.Measure c.args.graph.now old.n old.rows c.args.up.now c.requires.free c.args.work.now c.loop-y.work (c.loop-y.invariant.1 c.requires.free) old.some c.in_default.ensures;
       sizes = room_to g.G.Graph g.M.Measure c.args.graph.now old.n old.rows c.args.up.now old.few c.loop-y.work c.loop-y.invariant.0 128 (omega arith);
     }

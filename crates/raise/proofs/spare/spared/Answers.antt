@@ -2,7 +2,7 @@ use Rattle.std.proofs.Common.{◌+◌, ◌<◌, length, sym, ◌∙◌, subst, a
 use Rattle.update.specs.declared.work.Work.{Work}
 use Rattle.raise.proofs.Spares.{Parting, part_start, part_hit, part_spared, passes_not_datum}
 use Rattle.raise.proofs.spare.spared.Goals as goal
-use Rattle.raise.proofs.spare.spared.Goals.{then-passes+in-Some, then-passes+in-default, else-passes}
+use Rattle.raise.proofs.spare.spared.Goals.{then-passes+in-Some, then-passes+in_default, else-passes}
 
 pub loop-z-init : goal.loop-z-init
 loop-z-init g c = part_start g.G.Graph c.args.graph.now c.args.old.now.rows c.args.old.now.n c.args.b c.rows.result c.rows.ensures
@@ -22,10 +22,10 @@ loop-z-preserved g c =
     elim c.if-passes.branch [
       | then-passes+in-Some v ↦
           subst goal (sym v.work-is) (part_hit s x old.rows old.n b now z c.loop-z.invariant small low v.if-passes.ensures v.in-Some.w (sym v.in-Some.ensures))
-      | then-passes+in-default v ↦
+      | then-passes+in_default v ↦
           let pos = passes_not_datum s x old.rows old.n b z old.root c.requires.some v.if-passes.ensures in
           let edge = c.requires.joined z pos inside in
-          absurd (v.in-default.not-Some edge.0 (v.weight.ensures ∙ edge.1))
+          absurd (v.in_default.not-Some edge.0 (v.weight.ensures ∙ edge.1))
       | else-passes v ↦
           subst goal (sym v.work-is) (part_spared s x old.rows old.n b now z c.loop-z.invariant small low v.if-passes.ensures)
     ]

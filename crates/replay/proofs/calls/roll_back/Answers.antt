@@ -13,11 +13,11 @@ pub returns : goal.returns
 returns g c =
     let μ = g.M.Measure in
     let m = model g.S.TieStore c.args.solver.now in
-    let m' = model g.S.TieStore c.roll-back.new.self in
+    let m' = model g.S.TieStore c.roll_back.new.self in
     let held = c.in-Some.held in
-    let told = subst (λ (k : ℕ). Answered μ m (call.RollBack k) [] (rolled_back c.roll-back.result) [] m') (sym c.number.ensures ∙ c.if-number.false) c.roll-back.ensures.answered in
+    let told = subst (λ (k : ℕ). Answered μ m (call.RollBack k) [] (rolled_back c.roll_back.result) [] m') (sym c.number.ensures ∙ c.if-number.false) c.roll_back.ensures.answered in
     record {
-      suits = c.roll-back.ensures.suits;
-      made = bare μ m m' (call.RollBack c.args.number) _ _ [] c.rolling-back.ensures.answer refl told;
-      holds = subst (Holds m') (sym c.rolling-back.ensures.held) (roll_back_holds μ m m' c.args.number held c.roll-back.result told c.roll-back.ensures.back (subst (Holds m) c.in-Some.is c.requires.holds));
+      suits = c.roll_back.ensures.suits;
+      made = bare μ m m' (call.RollBack c.args.number) _ _ [] c.rolling_back.ensures.answer refl told;
+      holds = subst (Holds m') (sym c.rolling_back.ensures.held) (roll_back_holds μ m m' c.args.number held c.roll_back.result told c.roll_back.ensures.back (subst (Holds m) c.in-Some.is c.requires.holds));
     }

@@ -14,12 +14,12 @@ returns-in-Ok g c =
     let m' = model st c.open.new.self in
     let full : length c.args.cycle.now ≡ 64 = search rules in (
       rows_text name m'.depth m'.parent c.in-Ok.n,
-      c.in-ok-add-rows.ensures,
+      c.in_ok-add_rows.ensures,
       told_rows g.M.Measure c.args.total_depth (st.meaning c.args.store) name m m' c.new-solver.ensures.standing _ c.open.new.cycle c.in-Ok.n (rw full at c.in-Ok.ensures.answered),
     )
 
-pub add-refusal-requires : goal.add-refusal-requires
-add-refusal-requires g c =
+pub add_refusal-requires : goal.add_refusal-requires
+add_refusal-requires g c =
     let st = g.S.TieStore in
     let name : ℕ → List ℕ = λ m. get_or (names_of c.args.names.now) m [] in
     let m = model st c.new-solver.result in
@@ -36,6 +36,6 @@ returns g c =
     let m' = model st c.open.new.self in
     let full : length c.args.cycle.now ≡ 64 = search rules in (
       refusal_text name c.in-Err.why c.open.new.cycle,
-      c.in-ok-add-refusal.ensures,
+      c.in_ok-add_refusal.ensures,
       told_refusal g.M.Measure c.args.total_depth (st.meaning c.args.store) name m m' c.new-solver.ensures.standing _ c.open.new.cycle c.in-Err.why (rw full at c.in-Err.ensures.answered),
     )

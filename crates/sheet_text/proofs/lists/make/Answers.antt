@@ -7,32 +7,32 @@ use Rattle.sheet_text.proofs.Making.{made}
 use Rattle.sheet_text.proofs.Recording.{sound, stored}
 use Rattle.sheet_text.proofs.lists.make.Goals as goal
 
-pub returns-in-err-count : goal.returns-in-err-count
-returns-in-err-count c =
-    let p = err_from_is_err_and c.from-residual.result c.from-residual.ensures.1 in
-    rw (p.1, p.2) c.in-err-count.ensures.0
+pub returns-in_err-count : goal.returns-in_err-count
+returns-in_err-count c =
+    let p = err_from_is_err_and c.from_residual.result c.from_residual.ensures.1 in
+    rw (p.1, p.2) c.in_err-count.ensures.0
 
-pub with-ties-requires : goal.with-ties-requires
-with-ties-requires c =
-    let g = c.in-ok-count.ensures in
-    let w = well_of c.read-records.new.state in
-    let after = c.read-records.new.records in
+pub with_ties-requires : goal.with_ties-requires
+with_ties-requires c =
+    let g = c.in_ok-count.ensures in
+    let w = well_of c.read_records.new.state in
+    let after = c.read_records.new.records in
     let before = c.args.records.now in
     let says = made (length before) c.args.text.now w g.0.0 in
     let is : after ≡ map record_of w.ties ++ drop (length w.ties) before = g.2 ∙ ap (λ n. map record_of w.ties ++ drop n before) g.1 in
-    subst (λ n. ListSound n c.in-ok-count.count after) (sym c.len.ensures)
+    subst (λ n. ListSound n c.in_ok-count.count after) (sym c.len.ensures)
     (subst (λ n. ListSound (length w.names) n after) (sym g.1) (sound (length w.names) (length before) w.ties before after says.1.0.two says.1.0.names.few says.0 refl says.1.0.ties is))
 
 pub returns : goal.returns
 returns c =
-    let g = c.in-ok-count.ensures in
-    let w = well_of c.read-records.new.state in
-    let after = c.read-records.new.records in
+    let g = c.in_ok-count.ensures in
+    let w = well_of c.read_records.new.state in
+    let after = c.read_records.new.records in
     let before = c.args.records.now in
     let says = made (length before) c.args.text.now w g.0.0 in
     let is : after ≡ map record_of w.ties ++ drop (length w.ties) before = g.2 ∙ ap (λ n. map record_of w.ties ++ drop n before) g.1 in
-    let same : list_meaning c.len.result c.in-ok-count.count after ≡ list_meaning (length w.names) (length w.ties) after = λ i. list_meaning (c.len.ensures i) (g.1 i) after in (
+    let same : list_meaning c.len.result c.in_ok-count.count after ≡ list_meaning (length w.names) (length w.ties) after = λ i. list_meaning (c.len.ensures i) (g.1 i) after in (
       g.0,
-      c.with-ties.ensures.meaning ∙ same ∙ stored (length w.names) (length before) w.ties before after says.1.0.two says.1.0.names.few says.0 refl says.1.0.ties is w refl refl,
-      c.with-ties.ensures.sound,
+      c.with_ties.ensures.meaning ∙ same ∙ stored (length w.names) (length before) w.ties before after says.1.0.two says.1.0.names.few says.0 refl says.1.0.ties is w refl refl,
+      c.with_ties.ensures.sound,
     )

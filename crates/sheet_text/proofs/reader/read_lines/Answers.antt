@@ -14,23 +14,23 @@ loop-line-smaller c =
 pub loop-line-preserved : goal.loop-line-preserved
 loop-line-preserved c =
     let told = c.in-Some.ensures in (
-      (λ r o. c.loop-line.invariant.0 r (good (known c.take-bytes.new.self) c.in-Some.line.now c.in-Some.after.now told.0 told.1 c.in-default-take-bytes.ensures o)),
+      (λ r o. c.loop-line.invariant.0 r (good (known c.take_bytes.new.self) c.in-Some.line.now c.in-Some.after.now told.0 told.1 c.in_default-take_bytes.ensures o)),
       omega (arith, c.loop-line.invariant.1, ap length told.1, length-append c.in-Some.line.now (10 ∷ c.in-Some.after.now)),
     )
 
 -- the line and what stands before it are a part of the text
-pub overflow-cast-place : goal.overflow-cast-place
-overflow-cast-place c =
+pub overflow_cast-place : goal.overflow_cast-place
+overflow_cast-place c =
     let told = c.in-Some.ensures in
     omega (arith, c.requires.0, c.loop-line.invariant.1, ap length told.1, length-append c.in-Some.line.now (10 ∷ c.in-Some.after.now))
 
-pub overflow-add-place : goal.overflow-add-place
-overflow-add-place c =
+pub overflow_add-place : goal.overflow_add-place
+overflow_add-place c =
     let told = c.in-Some.ensures in
     omega (arith, c.requires.0, c.loop-line.invariant.1, ap length told.1, length-append c.in-Some.line.now (10 ∷ c.in-Some.after.now))
 
-pub overflow-add-place-in-Some : goal.overflow-add-place-in-Some
-overflow-add-place-in-Some c =
+pub overflow_add-place-in-Some : goal.overflow_add-place-in-Some
+overflow_add-place-in-Some c =
     let told = c.in-Some.ensures in
     omega (arith, c.requires.0, c.loop-line.invariant.1, ap length told.1, length-append c.in-Some.line.now (10 ∷ c.in-Some.after.now))
 
@@ -40,4 +40,4 @@ returns-in-Err c =
     c.loop-line.invariant.0 _ (faulty c.in-Err.code c.in-Some.line.now c.in-Some.after.now told.0 told.1 c.in-Err.ensures refl)
 
 pub returns : goal.returns
-returns c = c.loop-line.invariant.0 _ (ended c.in-default.ensures refl)
+returns c = c.loop-line.invariant.0 _ (ended c.in_default.ensures refl)

@@ -10,8 +10,8 @@ loop-i-preserved c =
     let ts = ties_of c.args.ties.now in
     let count = c.len-i-end.ensures.0 in
     let l : c.loop-i.i < length ts = omega arith in
-    ap (λ xs. set xs c.loop-i.i c.record-of.result) c.loop-i.invariant
-    ∙ ap (set (map record_of (take c.loop-i.i ts) ++ drop c.loop-i.i c.args.records.now) c.loop-i.i) (c.record-of.ensures ∙ ap record_of c.tie.ensures)
+    ap (λ xs. set xs c.loop-i.i c.record_of.result) c.loop-i.invariant
+    ∙ ap (set (map record_of (take c.loop-i.i ts) ++ drop c.loop-i.i c.args.records.now) c.loop-i.i) (c.record_of.ensures ∙ ap record_of c.tie.ensures)
     ∙ written_more c.args.records.now ts c.loop-i.i l c.requires
 
 pub returns : goal.returns

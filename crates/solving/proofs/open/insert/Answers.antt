@@ -14,19 +14,19 @@ use Rattle.solving.proofs.Opens.{end_inside, insert_none, insert_some, start_ins
 use Rattle.solving.proofs.Uses.{usable}
 use Rattle.solving.proofs.open.insert.Goals as goal
 
-pub returns-then-is-none : goal.returns-then-is-none
-returns-then-is-none g c =
+pub returns-then-is_none : goal.returns-then-is_none
+returns-then-is_none g c =
     let m = g.S.TieStore.meaning c.args.store.now in
     let law = g.S.TieStore.lawful c.args.store.now c.requires.sound in
     let none : c.amount.result ≡ None = search rules in
     (insert_none m law g.M.Measure c.args.total c.args.k c.args.table c.requires.table (sym c.amount.ensures ∙ none), refl)
 
-pub returns-in-default : goal.returns-in-default
-returns-in-default g c =
+pub returns-in_default : goal.returns-in_default
+returns-in_default g c =
     let m = g.S.TieStore.meaning c.args.store.now in
     let law = g.S.TieStore.lawful c.args.store.now c.requires.sound in
     let some : c.amount.result ≡ None → ⊥ = search rules in
-    absurd (tie_bound m law g.M.Measure c.args.total c.args.k (λ e. some (c.amount.ensures ∙ e)) (sym c.weight.ensures ∙ c.in-default.is))
+    absurd (tie_bound m law g.M.Measure c.args.total c.args.k (λ e. some (c.amount.ensures ∙ e)) (sym c.weight.ensures ∙ c.in_default.is))
 
 pub lower-requires : goal.lower-requires
 lower-requires g c =

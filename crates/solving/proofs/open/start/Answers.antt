@@ -9,4 +9,4 @@ returns g c =
     let total = c.args.total in
     start_suits g.M.Measure total m.tie c.flat.result c.requires.limits.total_small c.requires.deep
     (c.flat.ensures.rows ∙ ap (λ (i : Amount). set (replicate 64 (record { depth = total; parent = 0 })) 0 (record { depth = i; parent = 0 })) c.zero.ensures)
-    m.count (c.flat.ensures.n ∙ c.marker-count.ensures)
+    m.count (c.flat.ensures.n ∙ c.marker_count.ensures)

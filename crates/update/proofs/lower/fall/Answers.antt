@@ -30,8 +30,8 @@ returns-then-up-b g c =
     climbs.1 climbs.2
     c.requires.falls)
 
-pub settle-fallen-requires : goal.settle-fallen-requires
-settle-fallen-requires g c =
+pub settle_fallen-requires : goal.settle_fallen-requires
+settle_fallen-requires g c =
     let m = g.M.Measure in
     let old = c.args.old.now in
     let rows = c.args.old.now.rows in
@@ -46,41 +46,41 @@ settle-fallen-requires g c =
           (settled (flag (replicate 64 false)) old.n);
     }
 
-pub returns-then-settle-fallen : goal.returns-then-settle-fallen
-returns-then-settle-fallen g c =
+pub returns-then-settle_fallen : goal.returns-then-settle_fallen
+returns-then-settle_fallen g c =
     let m = g.M.Measure in
     let old = c.args.old.now in
     let rows = c.args.old.now.rows in
     let a = c.args.a in
     let b = c.args.b in
     let w' = weights g.G.Graph m c.args.graph.now in
-    let end = c.settle-fallen.new.work in
+    let end = c.settle_fallen.new.work in
     let small = c.requires.graph.small a b c.args.w c.requires.edge in
     let added = stepped m (deep rows a) c.depth.result c.args.w c.sum-sum.result c.depth.ensures c.sum-sum.ensures (c.requires.depths a c.requires.start) small in
     let long : c.args.b < length c.args.old.now.rows = search rules in
     let fell : ¬ m.group.le (depth m rows b) (m.value c.sum-sum.result) = λ h. c.requires.falls (rw added.1 at h) in
     let ends : Bool → Type 0 = λ v. Settlement m.group old.n w' a b (depth m end.rows) (parents_of end.rows) v in
     let solved : Solved m.group old.n w' (depth m end.rows) (parents_of end.rows) =
-    subst ends c.if-settle-fallen.true
+    subst ends c.if-settle_fallen.true
     (begun m old.n w' rows a b c.args.w c.sum-sum.result c.requires.start c.requires.end long added (replicate 64 false) c.ancestors-up.result (no_flag 64) c.requires.standing c.ancestors-up.ensures c.if-up-b.false fell
-    c.rows.result c.rows.ensures (λ x y. Settlement m.group old.n w' x y (depth m end.rows) (parents_of end.rows) c.settle-fallen.result) c.settle-fallen.ensures.outcome) in
-    let sizes : Deep m old.n 256 end.rows = λ z h. wider_to g.M.Measure.laws.wider 128 256 (deep end.rows z) (omega arith) (c.settle-fallen.ensures.sizes z h) in
+    c.rows.result c.rows.ensures (λ x y. Settlement m.group old.n w' x y (depth m end.rows) (parents_of end.rows) c.settle_fallen.result) c.settle_fallen.ensures.outcome) in
+    let sizes : Deep m old.n 256 end.rows = λ z h. wider_to g.M.Measure.laws.wider 128 256 (deep end.rows z) (omega arith) (c.settle_fallen.ensures.sizes z h) in
     (solved, shrunk g.G.Graph m c.args.graph.now old.n end.rows (parents_of end.rows) c.requires.graph.small solved sizes old.few)
 
-pub returns-else-settle-fallen : goal.returns-else-settle-fallen
-returns-else-settle-fallen g c =
+pub returns-else-settle_fallen : goal.returns-else-settle_fallen
+returns-else-settle_fallen g c =
     let m = g.M.Measure in
     let old = c.args.old.now in
     let rows = c.args.old.now.rows in
     let a = c.args.a in
     let b = c.args.b in
     let w' = weights g.G.Graph m c.args.graph.now in
-    let end = c.settle-fallen.new.work in
+    let end = c.settle_fallen.new.work in
     let small = c.requires.graph.small a b c.args.w c.requires.edge in
     let added = stepped m (deep rows a) c.depth.result c.args.w c.sum-sum.result c.depth.ensures c.sum-sum.ensures (c.requires.depths a c.requires.start) small in
     let long : c.args.b < length c.args.old.now.rows = search rules in
     let fell : ¬ m.group.le (depth m rows b) (m.value c.sum-sum.result) = λ h. c.requires.falls (rw added.1 at h) in
     let ends : Bool → Type 0 = λ v. Settlement m.group old.n w' a b (depth m end.rows) (parents_of end.rows) v in
-    subst ends c.if-settle-fallen.false
+    subst ends c.if-settle_fallen.false
     (begun m old.n w' rows a b c.args.w c.sum-sum.result c.requires.start c.requires.end long added (replicate 64 false) c.ancestors-up.result (no_flag 64) c.requires.standing c.ancestors-up.ensures c.if-up-b.false fell
-    c.rows.result c.rows.ensures (λ x y. Settlement m.group old.n w' x y (depth m end.rows) (parents_of end.rows) c.settle-fallen.result) c.settle-fallen.ensures.outcome)
+    c.rows.result c.rows.ensures (λ x y. Settlement m.group old.n w' x y (depth m end.rows) (parents_of end.rows) c.settle_fallen.result) c.settle_fallen.ensures.outcome)

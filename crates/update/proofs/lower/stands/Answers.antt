@@ -8,8 +8,8 @@ use Rattle.update.proofs.Sizes.{stepped}
 use Rattle.update.proofs.Ends.{by_test, same_solved}
 use Rattle.update.proofs.lower.stands.Goals as goal
 
-pub at-most-requires : goal.at-most-requires
-at-most-requires g c =
+pub at_most-requires : goal.at_most-requires
+at_most-requires g c =
     let m = g.M.Measure in
     let rows = c.args.old.now.rows in
     let wider = g.M.Measure.laws.wider in
@@ -25,7 +25,7 @@ returns g c =
     let before = c.requires.standing in
     let small = c.requires.graph.small c.args.a c.args.b c.args.w c.requires.edge in
     let added = stepped m (deep rows c.args.a) c.depth.result c.args.w c.sum-sum.result c.depth.ensures c.sum-sum.ensures (c.requires.depths c.args.a c.requires.start) small in
-    by_test c.at-most.result c.at-most.ensures
+    by_test c.at_most.result c.at_most.ensures
     (λ h. same_solved m.group old.n before.was (weights g.G.Graph m c.args.graph.now) c.args.a c.args.b (m.value c.args.w) (depth m rows) (parents_of rows) before.solved before.low
     c.requires.start c.requires.end (rw (c.depth-2.ensures, added.1) at h))
     (λ h k. h (rw (c.depth-2.ensures, added.1) k))

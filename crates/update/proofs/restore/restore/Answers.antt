@@ -14,10 +14,10 @@ use Rattle.update.specs.Restoring.{Stands}
 use Rattle.update.proofs.Rows.{deep_kept, up_same, up_other}
 use Rattle.update.proofs.Restores.{Restored, restored, restored_more, kept_path}
 use Rattle.update.proofs.restore.restore.Goals as goal
-use Rattle.update.proofs.restore.restore.Goals.{then-work-m+then-path-stands, else-work-m, else-work-m-via-then-work-m+else-path-stands, else-work-m-via-else-work-m}
+use Rattle.update.proofs.restore.restore.Goals.{then-work-m+then-path_stands, else-work-m, else-work-m-via-then-work-m+else-path_stands, else-work-m-via-else-work-m}
 
-pub path-stands-requires : goal.path-stands-requires
-path-stands-requires g c =
+pub path_stands-requires : goal.path_stands-requires
+path_stands-requires g c =
     let m = g.M.Measure in
     record {
       graph = c.requires.graph;
@@ -52,12 +52,12 @@ loop-m-preserved g c =
       c.loop-m.invariant.4,
     ) in
     elim c.if-work-m.branch [
-      | then-work-m+then-path-stands v ↦
+      | then-work-m+then-path_stands v ↦
           subst goal (sym v.work-is) (
             (λ z. deep_kept now k c.parent-parent.result tall z ∙ c.loop-m.invariant.0 z),
             restored_more m.group old.n w L p q (parents_of now) (parents_of (set now k row)) k c.loop-m.invariant.1
                 (λ z ne. up_other now k z row ne)
-                (inl (subst stands same (v.path-stands.ensures.0 v.if-path-stands.true), up_same now k row tall ∙ c.parent-parent.ensures.is)),
+                (inl (subst stands same (v.path_stands.ensures.0 v.if-path_stands.true), up_same now k row tall ∙ c.parent-parent.ensures.is)),
             (λ z h. up_other now k z row (λ e. omega arith) ∙ c.loop-m.invariant.2 z (omega arith)),
             length-set now k row ∙ c.loop-m.invariant.3,
             c.loop-m.invariant.4,
@@ -65,7 +65,7 @@ loop-m-preserved g c =
       | else-work-m v ↦
           subst goal (sym v.work-is) (keeps
           (elim v.else-work-m.branch [
-            | else-work-m-via-then-work-m+else-path-stands u ↦ (λ s. absurd (true≢false (sym (u.path-stands.ensures.1 (subst stands (sym same) s)) ∙ u.if-path-stands.false)))
+            | else-work-m-via-then-work-m+else-path_stands u ↦ (λ s. absurd (true≢false (sym (u.path_stands.ensures.1 (subst stands (sym same) s)) ∙ u.if-path_stands.false)))
             | else-work-m-via-else-work-m u ↦ (λ s. sym (c.loop-m.invariant.2 k (omega arith)) ∙ u.if-work-m.false ∙ c.parent-parent.ensures.is)
           ]))
     ]

@@ -18,8 +18,8 @@ pub returns : goal.returns
 returns g c =
     let s = c.args.self.now in
     record {
-      locked = lock_clear s.set (g.S.TieStore.meaning s.below) c.args.a c.args.b c.in-default.ensures _ _ c.clear.ensures.answer c.clear.ensures.after;
-      screened = screen_clear s.set (g.S.TieStore.meaning s.below) c.args.a c.args.b c.in-default.ensures _ _ c.clear.ensures.answer c.clear.ensures.after;
+      locked = lock_clear s.set (g.S.TieStore.meaning s.below) c.args.a c.args.b c.in_default.ensures _ _ c.clear.ensures.answer c.clear.ensures.after;
+      screened = screen_clear s.set (g.S.TieStore.meaning s.below) c.args.a c.args.b c.in_default.ensures _ _ c.clear.ensures.answer c.clear.ensures.after;
       set = refl {a = s.set};
       sound = c.clear.ensures.sound;
     }

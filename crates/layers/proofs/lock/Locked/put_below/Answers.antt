@@ -18,8 +18,8 @@ pub returns : goal.returns
 returns g c =
     let s = c.args.self.now in
     record {
-      locked = lock_put s.set (g.S.TieStore.meaning s.below) c.args.a c.args.b c.in-default.ensures c.args.amount _ _ c.put.ensures.answer c.put.ensures.after;
-      screened = screen_put s.set (g.S.TieStore.meaning s.below) c.args.a c.args.b c.in-default.ensures c.args.amount _ _ c.put.ensures.answer c.put.ensures.after;
+      locked = lock_put s.set (g.S.TieStore.meaning s.below) c.args.a c.args.b c.in_default.ensures c.args.amount _ _ c.put.ensures.answer c.put.ensures.after;
+      screened = screen_put s.set (g.S.TieStore.meaning s.below) c.args.a c.args.b c.in_default.ensures c.args.amount _ _ c.put.ensures.answer c.put.ensures.after;
       set = refl {a = s.set};
       sound = c.put.ensures.sound;
     }

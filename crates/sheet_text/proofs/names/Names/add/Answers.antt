@@ -7,8 +7,8 @@ bounds-self-self c =
     let full : length c.args.self.now.at ≡ 64 = search rules in
     omega (arith, c.requires, length_names c.args.self.now.at c.args.self.now.len (omega (arith, c.args.self.now.ok)))
 
-pub invariant-of-self-2 : goal.invariant-of-self-2
-invariant-of-self-2 c =
+pub invariant_of-self-2 : goal.invariant_of-self-2
+invariant_of-self-2 c =
     let full : length c.args.self.now.at ≡ 64 = search rules in
     let room = length_names c.args.self.now.at c.args.self.now.len (omega (arith, c.args.self.now.ok)) in
     search (rules, c.requires, room)

@@ -9,8 +9,8 @@ use Rattle.sheet_text.specs.declared.ties.Tie.{Tie}
 use Rattle.sheet_text.proofs.Stored.{added}
 use Rattle.sheet_text.proofs.state.State.put.Goals as goal
 
-pub returns-in-err-put : goal.returns-in-err-put
-returns-in-err-put c =
+pub returns-in_err-put : goal.returns-in_err-put
+returns-in_err-put c =
     let s = c.args.self.now in
     let k = known s in
     let t : Tie = record { start = c.in-Some.a; end = c.in-Some-find.b; mm = c.args.mm; strict = c.args.strict } in
@@ -20,8 +20,8 @@ returns-in-err-put c =
     let long = length-take-le s.ties.len s.ties.at (omega (arith, s.ties.ok)) in
     let few : length (ties_of s.ties) ≤ s.ties.room = omega (arith, s.ties.ok) in
     let is = added k c.args.first c.args.start.now c.args.end.now t from to new few in
-    let p = err_from_is_err_and c.from-residual.result c.from-residual.ensures.1 in
-    rw (p.1, p.2) (is ∙ ap (put_tie k c.args.first t) c.in-err-put.ensures)
+    let p = err_from_is_err_and c.from_residual.result c.from_residual.ensures.1 in
+    rw (p.1, p.2) (is ∙ ap (put_tie k c.args.first t) c.in_err-put.ensures)
 
 pub returns : goal.returns
 returns c =
@@ -35,5 +35,5 @@ returns c =
     let few : length (ties_of s.ties) ≤ s.ties.room = omega (arith, s.ties.ok) in
     let is = added k c.args.first c.args.start.now c.args.end.now t from to new few in
     let fits : SFits w64 c.args.mm = search rules in
-    let told = rw (to_z-of_z w64 c.args.mm fits) at c.in-ok-put.ensures in
+    let told = rw (to_z-of_z w64 c.args.mm fits) at c.in_ok-put.ensures in
     is ∙ ap (put_tie k c.args.first t) told.0 ∙ (λ i. Ok (record { phase = Ties; depth = k.depth; names = k.names; ties = sym told.1 i; room = sym told.2 i; first = c.args.first }))

@@ -3,8 +3,8 @@ use Rattle.measure.proofs.Within.{wider_to}
 use Rattle.measure.specs.declared.Amount.{Amount}
 use Rattle.solver.proofs.solver.Solver.check_opening.Goals as goal
 
-pub at-most-requires : goal.at-most-requires
-at-most-requires g c =
+pub at_most-requires : goal.at_most-requires
+at_most-requires g c =
     let μ = g.M.Measure in
     let total = c.args.self.now.total in (
       wider_to μ.laws.wider 1 256 total (omega arith) (μ.laws.single total (sym c.if-not-admitted.ensures)),

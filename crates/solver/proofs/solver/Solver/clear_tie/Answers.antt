@@ -23,8 +23,8 @@ returns g c =
     let b = c.args.to in
     let m = model st s in
     let open-now = c.requires.opened in
-    let ok : c.check-untie.result ≡ Ok tt = search rules in
-    let none = none_of (untie_refusal (st.meaning s.store) a b) (sym c.check-untie.ensures ∙ ok) in
+    let ok : c.check_untie.result ≡ Ok tt = search rules in
+    let none = none_of (untie_refusal (st.meaning s.store) a b) (sym c.check_untie.ensures ∙ ok) in
     let done = c.in-Ok.ensures in
     let told = settled-answered μ m (model st c.settle.new.self) a b None c.in-Ok.counts done.2 (call.Untie a b) [] (untie_first st μ s open-now a b ∙ none) refl (ap (put m.standing a b None) open-now) refl refl in
     record { suits = done.0; answered = told; logged = goes_on μ m _ (call.Untie a b) [] _ _ told }

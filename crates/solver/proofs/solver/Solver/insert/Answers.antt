@@ -14,21 +14,21 @@ use Rattle.bounds.proofs.Limits.{bound_loop, bound_reach, bound_small}
 use Rattle.solver.proofs.Opens.{end_inside, insert_none, insert_some, start_inside, tie_bound, witness_of}
 use Rattle.solver.proofs.solver.Solver.insert.Goals as goal
 
-pub returns-then-is-none : goal.returns-then-is-none
-returns-then-is-none g c =
+pub returns-then-is_none : goal.returns-then-is_none
+returns-then-is_none g c =
     let s = c.args.self.now in
     let m = g.S.TieStore.meaning s.store in
     let law = g.S.TieStore.lawful s.store c.requires.sound in
     let none : c.amount.result ≡ None = search rules in
     (insert_none m law g.M.Measure s.total c.args.k c.args.table c.requires.table (sym c.amount.ensures ∙ none), refl)
 
-pub returns-in-default : goal.returns-in-default
-returns-in-default g c =
+pub returns-in_default : goal.returns-in_default
+returns-in_default g c =
     let s = c.args.self.now in
     let m = g.S.TieStore.meaning s.store in
     let law = g.S.TieStore.lawful s.store c.requires.sound in
     let some : c.amount.result ≡ None → ⊥ = search rules in
-    absurd (tie_bound m law g.M.Measure s.total c.args.k (λ e. some (c.amount.ensures ∙ e)) (sym c.weight.ensures ∙ c.in-default.is))
+    absurd (tie_bound m law g.M.Measure s.total c.args.k (λ e. some (c.amount.ensures ∙ e)) (sym c.weight.ensures ∙ c.in_default.is))
 
 pub lower-requires : goal.lower-requires
 lower-requires g c =

@@ -38,8 +38,8 @@ trail-requires g c =
     let m = g.S.TieStore.meaning s.store in
     let law = g.S.TieStore.lawful s.store c.requires.suits.sound in
     let room = length c.args.cycle.now in
-    let ok : c.check-tie.result ≡ Ok tt = search rules in
-    let none = none_of (tie_refusal μ m c.args.from c.args.to c.args.amount (length c.args.cycle.now)) (sym c.check-tie.ensures ∙ ok) in
+    let ok : c.check_tie.result ≡ Ok tt = search rules in
+    let none = none_of (tie_refusal μ m c.args.from c.args.to c.args.amount (length c.args.cycle.now)) (sym c.check_tie.ensures ∙ ok) in
     cycle_leads μ.group m.count (bounds_of μ s.total (set_tie m.tie c.args.from c.args.to (Some c.args.amount))) (up c.in-Err-settle.work.rows) c.args.from c.args.to
     c.in-Err-settle.ensures.1 law.high room (tie_room μ m c.args.from c.args.to c.args.amount room none)
 
@@ -55,8 +55,8 @@ returns-in-Ok g c =
     let m = model st s in
     let k = call.Tie a b w (length before) in
     let open-now = c.requires.opened in
-    let ok : c.check-tie.result ≡ Ok tt = search rules in
-    let none = none_of (tie_refusal μ (st.meaning s.store) a b w (length before)) (sym c.check-tie.ensures ∙ ok) in
+    let ok : c.check_tie.result ≡ Ok tt = search rules in
+    let none = none_of (tie_refusal μ (st.meaning s.store) a b w (length before)) (sym c.check_tie.ensures ∙ ok) in
     let done = c.in-Ok.ensures in
     let told = settled-answered μ m (model st c.settle.new.self) a b (Some w) c.in-Ok.counts done.2 k before (tie_first st μ s open-now a b w (length before) ∙ none) refl (ap (put m.standing a b (Some w)) open-now) refl refl in
     record { suits = done.0; answered = told; logged = goes_on μ m _ k before _ _ told }
@@ -73,8 +73,8 @@ returns-in-Err-settle g c =
     let m = model st s in
     let k = call.Tie a b w (length before) in
     let open-now = c.requires.opened in
-    let ok : c.check-tie.result ≡ Ok tt = search rules in
-    let none = none_of (tie_refusal μ (st.meaning s.store) a b w (length before)) (sym c.check-tie.ensures ∙ ok) in
+    let ok : c.check_tie.result ≡ Ok tt = search rules in
+    let none = none_of (tie_refusal μ (st.meaning s.store) a b w (length before)) (sym c.check_tie.ensures ∙ ok) in
     let same : Solver g.row.S.Denot g.row.M.Denot = c.settle.new.self in
     let is = c.in-Err-settle.ensures.0 in
     let told = tie_contradicted st μ s open-now a b w before c.trail.new.out c.trail.result (up c.in-Err-settle.work.rows) none c.in-Err-settle.ensures.1 c.trail.ensures.count c.trail.ensures.out in

@@ -4,8 +4,8 @@ use Rattle.solver.proofs.Settling.{settled, step_small}
 use Rattle.solver.proofs.Openings.{bounds_sound}
 use Rattle.solver.proofs.solver.Solver.settle.Goals as goal
 
-pub next-table-requires : goal.next-table-requires
-next-table-requires g c =
+pub next_table-requires : goal.next_table-requires
+next_table-requires g c =
     let μ = g.M.Measure in
     let s = c.args.self.now in
     let m = g.S.TieStore.meaning s.store in

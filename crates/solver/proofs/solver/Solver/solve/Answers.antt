@@ -17,7 +17,7 @@ loop-k-init g c =
     let table = c.flat-table.result in (
       start_suits μ s.total m.tie table c.requires.limits.total_small c.requires.deep
           (c.flat-table.ensures.rows ∙ ap (λ (i : Amount). set (replicate 64 (record { depth = s.total; parent = 0 })) 0 (record { depth = i; parent = 0 })) c.zero.ensures)
-          m.count (c.flat-table.ensures.n ∙ c.marker-count.ensures),
+          m.count (c.flat-table.ensures.n ∙ c.marker_count.ensures),
       refl,
     )
 

@@ -17,13 +17,13 @@ use Rattle.solver.proofs.Changes.{adopted}
 use Rattle.solver.proofs.Ties.{end_known, not_new, start_known, tie_admitted, tie_contradicted, tie_first, tie_put, tie_room}
 use Rattle.solver.proofs.solver.Solver.tie.Goals as goal
 
-pub next-table-requires : goal.next-table-requires
-next-table-requires g c =
+pub next_table-requires : goal.next_table-requires
+next_table-requires g c =
     let μ = g.M.Measure in
     let s = c.args.self.now in
     let m = g.S.TieStore.meaning s.store in
-    let ok : c.check-tie.result ≡ Ok tt = search rules in
-    let none = none_of (tie_refusal μ m c.args.from c.args.to c.args.amount (length c.args.cycle.now)) (sym c.check-tie.ensures ∙ ok) in
+    let ok : c.check_tie.result ≡ Ok tt = search rules in
+    let none = none_of (tie_refusal μ m c.args.from c.args.to c.args.amount (length c.args.cycle.now)) (sym c.check_tie.ensures ∙ ok) in
     let open-now : c.args.self.now.state ≡ state.Open = search rules in
     record {
       suits = c.requires.suits;
@@ -52,10 +52,10 @@ trail-requires g c =
     let s = c.args.self.now in
     let m = g.S.TieStore.meaning s.store in
     let law = g.S.TieStore.lawful s.store c.requires.suits.sound in
-    let ok : c.check-tie.result ≡ Ok tt = search rules in
-    let none = none_of (tie_refusal μ m c.args.from c.args.to c.args.amount (length c.args.cycle.now)) (sym c.check-tie.ensures ∙ ok) in
-    cycle_leads μ.group m.count (bounds_of μ s.total (set_tie m.tie c.args.from c.args.to (Some c.args.amount))) (up c.in-Err-next-table.work.rows) c.args.from c.args.to
-    c.in-Err-next-table.ensures law.high (length c.args.cycle.now) (tie_room μ m c.args.from c.args.to c.args.amount (length c.args.cycle.now) none)
+    let ok : c.check_tie.result ≡ Ok tt = search rules in
+    let none = none_of (tie_refusal μ m c.args.from c.args.to c.args.amount (length c.args.cycle.now)) (sym c.check_tie.ensures ∙ ok) in
+    cycle_leads μ.group m.count (bounds_of μ s.total (set_tie m.tie c.args.from c.args.to (Some c.args.amount))) (up c.in-Err-next_table.work.rows) c.args.from c.args.to
+    c.in-Err-next_table.ensures law.high (length c.args.cycle.now) (tie_room μ m c.args.from c.args.to c.args.amount (length c.args.cycle.now) none)
 
 pub returns-in-Ok : goal.returns-in-Ok
 returns-in-Ok g c =
@@ -68,8 +68,8 @@ returns-in-Ok g c =
     let before = c.args.cycle.now in
     let k = call.Tie a b w (length before) in
     let open-now : c.args.self.now.state ≡ state.Open = search rules in
-    let ok : c.check-tie.result ≡ Ok tt = search rules in
-    let none = none_of (tie_refusal μ (st.meaning s.store) a b w (length before)) (sym c.check-tie.ensures ∙ ok) in
+    let ok : c.check_tie.result ≡ Ok tt = search rules in
+    let none = none_of (tie_refusal μ (st.meaning s.store) a b w (length before)) (sym c.check_tie.ensures ∙ ok) in
     let done = adopted st μ s c.requires.suits (not_new st μ s c.requires.suits open-now a b) a b (Some w)
     (λ v e. subst (λ (i : Amount). μ.admits i ≡ true) (same_some w v e) (tie_admitted μ (st.meaning s.store) a b w (length before) none))
     c.put.new.self c.put.ensures.sound (c.put.ensures.after ∙ tie_put μ (st.meaning s.store) a b w (length before) none)
@@ -77,8 +77,8 @@ returns-in-Ok g c =
     c.adopt.result c.adopt.new.self c.in-Ok.next c.in-Ok.ensures c.adopt.ensures in
     record { suits = done.0; answered = done.1; logged = goes_on μ (model st s) _ k before _ _ done.1 }
 
-pub returns-in-Err-next-table : goal.returns-in-Err-next-table
-returns-in-Err-next-table g c =
+pub returns-in-Err-next_table : goal.returns-in-Err-next_table
+returns-in-Err-next_table g c =
     let st = g.S.TieStore in
     let μ = g.M.Measure in
     let s = c.args.self.now in
@@ -89,8 +89,8 @@ returns-in-Err-next-table g c =
     let m = model st s in
     let k = call.Tie a b w (length before) in
     let open-now : c.args.self.now.state ≡ state.Open = search rules in
-    let ok : c.check-tie.result ≡ Ok tt = search rules in
-    let none = none_of (tie_refusal μ (st.meaning s.store) a b w (length before)) (sym c.check-tie.ensures ∙ ok) in
-    let told = tie_contradicted st μ s c.requires.suits open-now a b w before c.trail.new.out c.trail.result (up c.in-Err-next-table.work.rows) none c.in-Err-next-table.ensures
+    let ok : c.check_tie.result ≡ Ok tt = search rules in
+    let none = none_of (tie_refusal μ (st.meaning s.store) a b w (length before)) (sym c.check_tie.ensures ∙ ok) in
+    let told = tie_contradicted st μ s c.requires.suits open-now a b w before c.trail.new.out c.trail.result (up c.in-Err-next_table.work.rows) none c.in-Err-next_table.ensures
     c.trail.ensures.count c.trail.ensures.out in
     record { suits = c.requires.suits; answered = told; logged = goes_on μ m m k before _ _ told }

@@ -20,17 +20,17 @@ returns-in-Ok g c =
     let b = c.args.to in
     let k = call.Untie a b in
     let open-now : c.args.self.now.state ≡ state.Open = search rules in
-    let ok : c.check-untie.result ≡ Ok tt = search rules in
-    let none = none_of (untie_refusal (st.meaning s.store) a b) (sym c.check-untie.ensures ∙ ok) in
+    let ok : c.check_untie.result ≡ Ok tt = search rules in
+    let none = none_of (untie_refusal (st.meaning s.store) a b) (sym c.check_untie.ensures ∙ ok) in
     let done = adopted st μ s c.requires.suits (not_new st μ s c.requires.suits open-now a b) a b None (λ v e. absurd (no_some v e))
     c.clear.new.self c.clear.ensures.sound (c.clear.ensures.after ∙ tie_cleared (st.meaning s.store) a b none)
     k [] (untie_first st μ s c.requires.suits open-now a b ∙ none) refl refl (λ m'. refl) refl
     c.adopt.result c.adopt.new.self c.in-Ok.next c.in-Ok.ensures c.adopt.ensures in
     record { suits = done.0; answered = done.1; logged = goes_on μ (model st s) _ k [] _ _ done.1 }
 
-pub returns-in-Err-next-table : goal.returns-in-Err-next-table
-returns-in-Err-next-table g c =
+pub returns-in-Err-next_table : goal.returns-in-Err-next_table
+returns-in-Err-next_table g c =
     let st = g.S.TieStore in
     let s = c.args.self.now in
     let open-now : c.args.self.now.state ≡ state.Open = search rules in
-    absurd (untie_fits st g.M.Measure s c.requires.suits open-now c.args.from c.args.to (up c.in-Err-next-table.-work.rows) c.in-Err-next-table.ensures)
+    absurd (untie_fits st g.M.Measure s c.requires.suits open-now c.args.from c.args.to (up c.in-Err-next_table.-work.rows) c.in-Err-next_table.ensures)
