@@ -33,4 +33,4 @@ returns-in-Err-next_table g c =
     let st = g.S.TieStore in
     let s = c.args.self.now in
     let open-now : c.args.self.now.state ≡ state.Open = search rules in
-    absurd (untie_fits st g.M.Measure s c.requires.suits open-now c.args.from c.args.to (up c.in-Err-next_table.-work.rows) c.in-Err-next_table.ensures)
+    absurd (untie_fits st g.M.Measure s c.requires.suits open-now c.args.from c.args.to (up c.in-Err-next_table._work.rows) c.in-Err-next_table.ensures)
