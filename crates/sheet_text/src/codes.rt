@@ -10,8 +10,8 @@ use store::Refusal;
 impl From<Refusal> for Code {
     ghost from_gives = { λ refusal code. code ≡ Store refusal };
 
-    fn from(refusal: Refusal) -> Code {
-        Code::Store(refusal)
+    fn from(why: Refusal) -> Code {
+        Code::Store(why)
     }
 }
 

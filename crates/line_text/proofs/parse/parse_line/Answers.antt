@@ -3,15 +3,15 @@ use Rattle.std.proofs.lemmas.Int.{to_z-of_z}
 use Rattle.line_text.proofs.Refusals.{keyed, depth_only, marker_only}
 use Rattle.line_text.proofs.parse.parse_line.Goals as goal
 
-pub returns-in_err-millimetres : goal.returns-in_err-millimetres
-returns-in_err-millimetres c =
-    rw (c.from_residual.ensures, keyed 72 32 c.args.bytes.now (search rules) (search rules) (search rules)) (depth_only _ c.in_err-millimetres.ensures)
+pub returns-in_err-millimetres-in-72 : goal.returns-in_err-millimetres-in-72
+returns-in_err-millimetres-in-72 c =
+    rw (c.from_residual.ensures, keyed 72 32 c.args.bytes.now (search rules) (search rules) (search rules)) (depth_only _ c.in_err-millimetres-in-72.ensures)
 
-pub returns-in_ok-millimetres : goal.returns-in_ok-millimetres
-returns-in_ok-millimetres c =
-    let read = c.in_ok-millimetres.ensures in
-    let f : SFits w64 c.in_ok-millimetres.field-0 = search rules in
-    rw (to_z-of_z w64 c.in_ok-millimetres.field-0 f)
+pub returns-in_ok-millimetres-in-72 : goal.returns-in_ok-millimetres-in-72
+returns-in_ok-millimetres-in-72 c =
+    let read = c.in_ok-millimetres-in-72.ensures in
+    let f : SFits w64 c.in_ok-millimetres-in-72.field-0 = search rules in
+    rw (to_z-of_z w64 c.in_ok-millimetres-in-72.field-0 f)
     (read.0, ap (λ l. 72 ∷ 32 ∷ l) read.1 ∙ sym (keyed 72 32 c.args.bytes.now (search rules) (search rules) (search rules)))
 
 pub returns-then-is_name : goal.returns-then-is_name
