@@ -157,7 +157,7 @@ fn run<S: TieStore, M: Measure>(
     };
     for i in 0..changes {
         let change = draw.change(&well, &aims);
-        step(rt, solver, &mut well, change, &mut answers).note(format_args!("change {i}"))?;
+        step(rt, solver, &mut well, change, &mut answers)?;
     }
     Ok(answers)
 }
