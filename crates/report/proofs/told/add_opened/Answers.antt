@@ -14,7 +14,7 @@ returns-in-Ok g c =
     let m' = model st c.open.new.self in
     let full : length c.args.cycle.now ≡ 64 = search rules in (
       rows_text name m'.depth m'.parent c.in-Ok.n,
-      c.in_ok-add_rows.ensures,
+      c.in_ok-add_rows-in-Ok.ensures,
       told_rows g.M.Measure c.args.total_depth (st.meaning c.args.store) name m m' c.new-solver.ensures.standing _ c.open.new.cycle c.in-Ok.n (rw full at c.in-Ok.ensures.answered),
     )
 
@@ -36,6 +36,6 @@ returns g c =
     let m' = model st c.open.new.self in
     let full : length c.args.cycle.now ≡ 64 = search rules in (
       refusal_text name c.in-Err.why c.open.new.cycle,
-      c.in_ok-add_refusal.ensures,
+      c.in_ok-add_refusal-in-Err.ensures,
       told_refusal g.M.Measure c.args.total_depth (st.meaning c.args.store) name m m' c.new-solver.ensures.standing _ c.open.new.cycle c.in-Err.why (rw full at c.in-Err.ensures.answered),
     )

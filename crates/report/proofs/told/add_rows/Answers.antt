@@ -6,7 +6,7 @@ use Rattle.solver.proofs.Readings.{never_refused, row_read}
 use Rattle.depth_text.specs.Lines.{rows_text}
 use Rattle.report.proofs.Rows.{rows_more, same_line}
 use Rattle.report.proofs.told.add_rows.Goals as goal
-use Rattle.report.proofs.told.add_rows.Goals.{in-Ok+in_ok-add_row, in-Err}
+use Rattle.report.proofs.told.add_rows.Goals.{in-Ok+in_ok-add_row-in-Ok, in-Err}
 
 pub loop-m-preserved : goal.loop-m-preserved
 loop-m-preserved g c =
@@ -15,12 +15,12 @@ loop-m-preserved g c =
     let known : c.loop-m.m < (model g.S.TieStore c.args.solver.now).standing.count = omega (arith, c.loop-m-test.true, c.requires.known) in
     let name : ℕ → List ℕ = λ m. get_or (names_of c.args.names.now) m [] in
     elim c.match-depth.branch [
-      | in-Ok+in_ok-add_row w ↦
+      | in-Ok+in_ok-add_row-in-Ok w ↦
           let row = w.in-Ok.row in
           let read = row_read g.M.Measure s k c.requires.opened known row w.in-Ok.ensures.answered in
-          let line = same_line name s.depth s.parent k row.parent row.depth _ _ w.name.ensures read.0 read.1 w.name_in-Ok.ensures in
+          let line = same_line name s.depth s.parent k row.parent row.depth _ _ w.name.ensures read.0 read.1 w.name-in-Ok.ensures in
           ap vec_items w.out-is
           ∙ (rows_more name s.depth s.parent k (vec_items c.args.out.now) (vec_items c.loop-m.out) _ c.loop-m.invariant
-          (w.in_ok-add_row.ensures ∙ ap (λ l. vec_items c.loop-m.out ++ l) line))
-      | in-Err w ↦ absurd (never_refused g.M.Measure s k c.requires.opened known w.in-Err.-why w.in-Err.ensures.answered)
+          (w.in_ok-add_row-in-Ok.ensures ∙ ap (λ l. vec_items c.loop-m.out ++ l) line))
+      | in-Err w ↦ absurd (never_refused g.M.Measure s k c.requires.opened known w.in-Err._why w.in-Err.ensures.answered)
     ]
