@@ -5,6 +5,7 @@
 
 ghost use Rattle.std.specs.Prelude.{◌≡◌};
 ghost use Rattle.solver.specs.Suits.{Suits};
+ghost use Rattle.solver.specs.Trials.{CanRollBack};
 
 use measure::{Amount, Measure, PlainDepth};
 use replay::keep_trial;
@@ -18,7 +19,9 @@ fn mm(mm: i64) -> Amount {
 // Tries the tie from 0 to 1, and keeps it: the two counts.
 fn keep<S: TieStore, M: Measure>(solver: &mut Solver<S, M>, amount: Amount) -> Option<(u16, u16)>
     requires suits { Suits S.TieStore M.Measure solver.old }
+    requires trial { CanRollBack S.TieStore M.Measure solver.old }
     ensures suits { Suits S.TieStore M.Measure solver.new }
+    ensures trial { CanRollBack S.TieStore M.Measure solver.new }
 {
     let mut cycle = [0u16; 4];
     let Ok((counts, token)) = solver.trial(0, 1, amount, &mut cycle) else {

@@ -1,5 +1,5 @@
 -- Who has the token in hand while a trial is out. Assumes nothing.
-use Rattle.std.proofs.Common.{◌≡◌, ℕ, Bool, true, false, not, ◌&&◌, eqb, ◌⊎◌, List, [], ◌∷◌, Some, None, Ok, Err, Option, Result, sym, refl, ap, ◌∙◌, subst, inl, inr, true≢false, arith}
+use Rattle.std.proofs.Common.{◌≡◌, ℕ, Bool, true, false, not, ◌&&◌, eqb, List, [], Some, None, Ok, Err, Option, Result, sym, refl, ap, ◌∙◌, subst, inl, inr, true≢false, arith}
 use Rattle.std.proofs.lemmas.Bool.{and_from, eq-eqb}
 use Rattle.measure.specs.declared.Amount.{Amount}
 use Rattle.measure.specs.declared.Measure as measure
@@ -15,7 +15,8 @@ use Rattle.law.specs.Calls.{Answered, Model, Outcome}
 use Rattle.law.specs.Refusals.{first_refusal, is_new, on_trial}
 use Rattle.law.specs.Standing.{rolled_back as rolled, Standing, took}
 use Rattle.law.proofs.Answers.{skips}
-use Rattle.checks.proofs.Passing.{not-false, passed}
+use Rattle.solver.proofs.Openings.{passed}
+use Rattle.solver.proofs.Ties.{not-false}
 use Rattle.solver.specs.declared.token.Returned.{Returned}
 use Rattle.solver.specs.declared.token.TrialToken.{TrialToken}
 use Rattle.solver.specs.Tokens.{ComesBack, committed, rolled_back}

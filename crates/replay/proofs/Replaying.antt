@@ -4,12 +4,9 @@ use native.Mathlib.Decide.{ℕ_discrete}
 use Rattle.std.proofs.lemmas.List.{get_or_past}
 use Rattle.std.proofs.lemmas.Bool.{cases_lt}
 use Rattle.measure.specs.declared.Measure as measure
-use Rattle.law.specs.declared.call.Answer.{Answer}
-use Rattle.law.specs.declared.call.Call.{Call}
 use Rattle.law.specs.declared.call.Entry.{Entry}
 use Rattle.law.specs.Calls.{Model}
 use Rattle.law.specs.Law.{Log}
-use Rattle.law.specs.Standing.{Standing}
 use Rattle.law.specs.Telling.{Ran, Tells}
 use Rattle.law.specs.Telling.Ran.{more, none}
 use Rattle.law.proofs.Tellings.{goes_on}

@@ -5,6 +5,7 @@ ghost use Rattle.law.specs.Law.{Lawful};
 ghost use Rattle.law.specs.declared.call.State.TheVariants as state;
 ghost use Rattle.solver.specs.Model.{model, standing_of};
 ghost use Rattle.solver.specs.Suits.{Suits};
+ghost use Rattle.solver.specs.Trials.{CanRollBack};
 ghost use Rattle.replay.specs.Replays.{Holds, log_of};
 
 use crate::replay;
@@ -25,8 +26,10 @@ fn run_new<S: TieStore, M: Measure>(
     entries: &mut [Entry],
 ) -> Option<TrialToken>
     requires suits { Suits S.TieStore M.Measure solver.old }
+    requires trial { CanRollBack S.TieStore M.Measure solver.old }
     requires new { (model S.TieStore solver.old).standing.state ≡ state.New }
     ensures suits { Suits S.TieStore M.Measure solver.new }
+    ensures trial { CanRollBack S.TieStore M.Measure solver.new }
     ensures holds { Holds (model S.TieStore solver.new) result }
     ensures lawful { Lawful M.Measure (model S.TieStore solver.old).standing (log_of entries.new) }
 {
@@ -44,6 +47,7 @@ pub fn replay_new<S: TieStore, M: Measure>(
 ) -> Run<S, M>
     requires sound { S.TieStore.sound store }
     ensures suits { Suits S.TieStore M.Measure result.solver }
+    ensures trial { CanRollBack S.TieStore M.Measure result.solver }
     ensures holds { Holds (model S.TieStore result.solver) result.token }
     ensures lawful { Lawful M.Measure (standing_of (S.TieStore.meaning store) total_depth number state.New) (log_of entries.new) }
 {

@@ -1,41 +1,31 @@
 -- A solver after one tie has changed. Assumes nothing.
-use Rattle.std.proofs.Common.{◌≡◌, ℕ, ◌+◌, ◌-◌, ◌<◌, ◌≤◌, Bool, true, false, cond, not, ◌&&◌, ◌||◌, eqb, ltb, ◌⊎◌, List, [], ◌∷◌, is_some, Some, None, Ok, Err, Option, Result, sym, refl, ap, ◌∙◌, subst, inl, inr, true≢false, arith}
-use Rattle.std.proofs.lemmas.Bool.{and_parts, cases_Bool, cond-false, cond-true}
+use Rattle.std.proofs.Common.{◌≡◌, ℕ, ◌+◌, ◌-◌, ◌<◌, true, false, cond, not, ◌&&◌, eqb, ◌⊎◌, List, is_some, Some, None, Ok, Option, sym, refl, ap, ◌∙◌, subst, inl, inr, true≢false, arith}
+use Rattle.std.proofs.lemmas.Bool.{cases_Bool, cond-false, cond-true}
 use Rattle.measure.specs.declared.Amount.{Amount}
 use Rattle.measure.specs.declared.Measure.{Ghosts as MeasureGhosts}
 use Rattle.store.specs.declared.TieStore.{Ghosts as StoreGhosts}
-use Rattle.store.specs.Meaning.{clear_answer, clear_done, put_answer, put_done, set_tie, StoreMeaning}
+use Rattle.store.specs.Meaning.{clear_done, put_done, set_tie, StoreMeaning}
 use Rattle.graph.specs.Graph.{PathTo}
 use Rattle.graph.specs.Tree.{path_to}
 use Rattle.table.specs.Climb.{deep, up}
 use Rattle.table.specs.declared.table.DepthTable.{DepthTable}
-use Rattle.law.specs.Calls.{Accepted, Answered, answer_of, buffer_after, changes_after, Keeps, Kind, kind, Model, moved, PathAt, reparented, Table, tally}
+use Rattle.law.specs.Calls.{Answered, answer_of, buffer_after, changes_after, Keeps, Kind, kind, Model, moved, PathAt, reparented, Table, tally}
 use Rattle.law.specs.Amounts.{same_value}
 use Rattle.law.specs.Calls.Kind.{change}
 use Rattle.law.specs.Refusals.{first_refusal, is_new}
-use Rattle.law.specs.Standing.{bounds_of, places, put, Standing, Ties, took}
-use Rattle.law.specs.declared.call.Answer.{Answer}
+use Rattle.law.specs.Standing.{bounds_of, places, put, Standing, took}
 use Rattle.law.specs.declared.call.Answer.TheVariants as answer
 use Rattle.law.specs.declared.call.Call.{Call}
-use Rattle.law.specs.declared.call.Refusal.{Refusal}
 use Rattle.law.specs.declared.call.State.TheVariants as state
 use Rattle.law.proofs.Answers.{accepted}
-use Rattle.bounds.proofs.Limits.{same_some, set_other}
 use Rattle.solver.specs.declared.solver.Solver.{Solver}
 use Rattle.change.proofs.Tallies.{none_moved, none_reparented}
 use Rattle.solver.specs.Changing.{Adopted, counts, KeptPaths, LeadsTo, with_table}
 use Rattle.solver.specs.Model.{model, standing_of}
+use Rattle.solver.specs.Settling.{Settled}
 use Rattle.solver.specs.Suits.{Admitted, Suits, TableSuits}
+use Rattle.solver.specs.Writing.{changed_meaning}
 use Rattle.solver.proofs.Openings.{table_of}
-
--- the meaning of a store in which the pair a, b has o
-abbrev pub changed_meaning : StoreMeaning → ℕ → ℕ → Option Amount → StoreMeaning
-changed_meaning m a b o = record {
-  count = m.count;
-  closed = m.closed;
-  tie = set_tie m.tie a b o;
-  free = m.free + places (m.tie a b) - places o;
-}
 
 pub put_changes : (m : StoreMeaning) (a b : ℕ) (w : Amount) → put_done m a b w ≡ changed_meaning m a b (Some w)
 put_changes m a b w = ap (λ f. record { count = m.count; closed = m.closed; tie = set_tie m.tie a b (Some w); free = f }) (by (m.tie a b))
@@ -52,7 +42,7 @@ clear_changes m a b h = ap (λ f. record { count = m.count; closed = m.closed; t
     by (Some v) e = omega arith
 
 -- a table that stays has no new rows
-no_counts : {M : Type 0} (μ : MeasureGhosts M) (t : DepthTable) → counts μ t t ≡ (0, 0)
+pub no_counts : {M : Type 0} (μ : MeasureGhosts M) (t : DepthTable) → counts μ t t ≡ (0, 0)
 no_counts μ t = ap (λ (i : ℕ). (i, tally t.n (λ k. not (eqb (up t.rows k) (up t.rows k))))) (none_moved μ t.n (deep t.rows)) ∙ ap (λ (i : ℕ). (0, i)) (none_reparented t.n (up t.rows))
 
 module _ {S M : Type 0} (st : StoreGhosts S) (μ : MeasureGhosts M) (s : Solver S M) (suits : Suits st μ s) (opened : is_new s.state ≡ false) (a b : ℕ) (o : Option Amount)
@@ -95,6 +85,14 @@ module _ {S M : Type 0} (st : StoreGhosts S) (μ : MeasureGhosts M) (s : Solver 
         let old = subst (λ (x : Standing). PathAt μ x (path_to (up s.table.rows) (st.meaning s.store).count k) k (μ.value (deep table.rows k))) after_standing path in
         let same = subst (λ (i : ℕ). PathTo μ.group i (bounds_of μ s.total (set_tie (st.meaning s.store).tie a b o)) (path_to (up s.table.rows) i k) k (μ.value (deep table.rows k)) → path_to (up table.rows) i k ≡ path_to (up s.table.rows) i k) n (kept k inner) in
         subst (λ (i : ℕ). path_to (up table.rows) i k ≡ path_to (up s.table.rows) (st.meaning s.store).count k) (sym (ap (λ (x : Standing). x.count) after_standing)) (same old)
+
+    pub after_settled : s.state ≡ state.Open → (r : ℕ × ℕ) → r ≡ counts μ s.table table → Settled μ (model st s) a b o r (model st after)
+    after_settled open-now r counted = record {
+      standing = after_standing ∙ ap (put (model st s).standing a b o) open-now;
+      table = (table_of μ (model st after).standing table after_fits, after_keeps);
+      changes = refl;
+      counted = counted ∙ ap (λ (i : ℕ). (tally i (λ k. not (same_value μ (deep s.table.rows k) (deep table.rows k))), tally i (λ k. not (eqb (up s.table.rows k) (up table.rows k))))) suits.same;
+    }
 
     pub after_accepted : (c : Call) (before : List ℕ) (r : ℕ × ℕ) → first_refusal μ (model st s).standing c ≡ None
         → kind c ≡ change → took c (model st s).standing ≡ put (model st s).standing a b o s.state

@@ -4,3 +4,5 @@ pub mod Starts
 pub mod Openings
 pub mod Changes
 pub mod Ties
+pub mod Settling
+pub mod Trials

@@ -1,5 +1,5 @@
 -- An opening, from its checks to its answer. Assumes nothing.
-use Rattle.std.proofs.Common.{◌≡◌, ℕ, ◌+◌, ◌<◌, ◌≤◌, Bool, true, false, not, ◌||◌, ltb, ◌⊎◌, List, [], ◌∷◌, length, Some, None, Ok, Err, Option, Result, sym, refl, ap, ◌∙◌, subst, inl, inr, true≢false, arith}
+use Rattle.std.proofs.Common.{◌≡◌, ℕ, ◌<◌, ◌≤◌, Bool, true, false, not, ◌||◌, ltb, ◌⊎◌, List, [], ◌∷◌, length, Some, None, Ok, Err, Option, sym, refl, ap, ◌∙◌, subst, inl, inr, true≢false, arith}
 use Rattle.std.proofs.lemmas.Bool.{cases_lt, ltb-false}
 use Rattle.measure.specs.declared.Amount.{Amount}
 use Rattle.measure.specs.declared.Measure.{Ghosts as MeasureGhosts}
@@ -14,7 +14,7 @@ use Rattle.table.specs.declared.table.DepthTable.{DepthTable}
 use Rattle.law.specs.Amounts.{at_most}
 use Rattle.law.specs.Calls.{Accepted, Answered, Contradicted, Model, Outcome, TableOf}
 use Rattle.law.specs.Refusals.{bad_tie, cycle_length, first, first_bad_tie, first_refusal, is_new, lowest, when}
-use Rattle.law.specs.Standing.{bounds_of, Standing, Ties, turned}
+use Rattle.law.specs.Standing.{bounds_of, Standing, Ties}
 use Rattle.law.specs.declared.call.Answer.TheVariants as answer
 use Rattle.law.specs.declared.call.Call.TheVariants as call
 use Rattle.law.specs.declared.call.Refusal.{Refusal}
@@ -23,7 +23,7 @@ use Rattle.law.specs.declared.call.State.{State}
 use Rattle.law.specs.declared.call.State.TheVariants as state
 use Rattle.bounds.specs.Small.{BoundsSound}
 use Rattle.solver.specs.declared.solver.Solver.{Solver}
-use Rattle.solver.specs.Model.{model, standing_of}
+use Rattle.solver.specs.Model.{model}
 use Rattle.solver.specs.Opening.{as_result, opening_refusal, Witness}
 use Rattle.solver.specs.Suits.{Admitted, Suits, TableSuits}
 use Rattle.law.proofs.Answers.{accepted, contradicted, skips}

@@ -1,14 +1,13 @@
 -- Ties inserted one pair after another. Assumes nothing.
-use Rattle.std.proofs.Common.{◌≡◌, ℕ, ◌+◌, ◌*◌, ◌/◌, ◌%◌, ◌<◌, ◌≤◌, Bool, true, false, cond, eqb, ltb, ◌⊎◌, List, [], ◌∷◌, length, Some, None, Option, sym, refl, ap, ◌∙◌, subst, inl, inr, arith}
+use Rattle.std.proofs.Common.{◌≡◌, ℕ, ◌+◌, ◌*◌, ◌/◌, ◌%◌, ◌<◌, Bool, true, false, cond, eqb, ltb, List, ◌∷◌, length, Some, None, Option, sym, ap, ◌∙◌, subst, inl, inr, arith}
 use Rattle.std.proofs.lemmas.Bool.{cases_lt, cond-false, cond-true, lt-ltb, ne_eqb}
 use Rattle.measure.specs.declared.Amount.{Amount}
 use Rattle.measure.specs.declared.Measure.{Ghosts as MeasureGhosts}
 use Rattle.measure.specs.Group.{OrderedGroup}
 use Rattle.store.specs.Meaning.{StoreMeaning, Lawful}
 use Rattle.graph.specs.Graph.{Weight}
-use Rattle.graph.specs.Theorems.{Solved}
-use Rattle.graph.specs.Tree.{climb, way}
-use Rattle.graph.proofs.Walks.{Smaller, smaller_cycle}
+use Rattle.graph.specs.Tree.{way}
+use Rattle.graph.proofs.Walks.{smaller_cycle}
 use Rattle.table.specs.Climb.{deep, FirstClimb, up}
 use Rattle.table.specs.declared.table.DepthTable.{DepthTable}
 use Rattle.table.proofs.Ways.{length_down}

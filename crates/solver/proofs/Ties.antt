@@ -1,29 +1,28 @@
 -- A tie or an untying, from its checks to its answer. Assumes nothing.
-use Rattle.std.proofs.Common.{◌≡◌, ℕ, zero, suc, ◌+◌, ◌<◌, ◌≤◌, Bool, true, false, cond, not, ◌&&◌, ◌||◌, eqb, ltb, ◌⊎◌, List, [], ◌∷◌, ◌++◌, length, is_some, Some, None, Ok, Err, Option, Result, sym, refl, ap, ◌∙◌, subst, inl, inr, true≢false, arith}
-use Rattle.std.proofs.lemmas.Bool.{and_parts, cases_Bool, cond-false, cond-true, eqb-false, ltb-false, ltb-true}
+use Rattle.std.proofs.Common.{◌≡◌, ℕ, zero, suc, ◌+◌, ◌<◌, ◌≤◌, Bool, true, false, cond, not, ◌&&◌, ◌||◌, eqb, ltb, List, [], ◌∷◌, length, is_some, Some, None, Ok, Option, Result, sym, refl, ap, ◌∙◌, subst, true≢false}
+use Rattle.std.proofs.lemmas.Bool.{and_from, and_parts, cond-false, cond-true, eq-eqb, ltb-false, ltb-true}
 use Rattle.measure.specs.declared.Amount.{Amount}
 use Rattle.measure.specs.declared.Measure.{Ghosts as MeasureGhosts}
 use Rattle.measure.specs.Group.{OrderedGroup}
 use Rattle.store.specs.declared.Refusal.{Refusal as StoreRefusal}
 use Rattle.store.specs.declared.TieStore.{Ghosts as StoreGhosts}
-use Rattle.store.specs.Meaning.{clear_after, clear_answer, clear_done, put_after, put_answer, put_done, set_tie, StoreMeaning}
+use Rattle.store.specs.Meaning.{clear_after, put_after, set_tie, StoreMeaning}
 use Rattle.store.proofs.Calls.{clear_accepted, put_accepted}
 use Rattle.graph.specs.Graph.{Cycle, Fits, Weight}
 use Rattle.graph.specs.Tree.{way}
 use Rattle.graph.proofs.Raises.{raised_fits}
 use Rattle.graph.proofs.Walks.{negative_cycle_refutes}
-use Rattle.table.specs.Climb.{deep, FirstClimb, up}
+use Rattle.table.specs.Climb.{deep, FirstClimb}
 use Rattle.table.proofs.Ways.{length_down}
 use Rattle.update.specs.Lowering.{NegativeCycle}
 use Rattle.update.proofs.Cycles.{cycle_first}
-use Rattle.law.specs.Calls.{Answered, BeginsWith, EndsWith, Model, over_front}
+use Rattle.law.specs.Calls.{Answered, EndsWith, over_front}
 use Rattle.law.specs.Refusals.{first, first_refusal, is_new, on_trial, when}
 use Rattle.law.specs.Standing.{bounds_of}
 use Rattle.law.specs.declared.call.Answer.TheVariants as answer
 use Rattle.law.specs.declared.call.Call.TheVariants as call
 use Rattle.law.specs.declared.call.Refusal.{Refusal}
 use Rattle.law.specs.declared.call.Refusal.TheVariants.{BadAmount, ClosedMarker, Contradiction, NotOpen, PairEmpty, SameMarker, ShortBuffer, StoreFull, TrialOut, UnknownMarker}
-use Rattle.law.specs.declared.call.State.{State}
 use Rattle.law.specs.declared.call.State.TheVariants as state
 use Rattle.law.proofs.Answers.{contradicted, ends_with_last, skips}
 use Rattle.bounds.proofs.Limits.{cleared_raised}
@@ -31,10 +30,11 @@ use Rattle.solver.specs.declared.solver.Solver.{Solver}
 use Rattle.solver.specs.Changing.{pair_refusal, tie_refusal, untie_refusal}
 use Rattle.solver.specs.Model.{model}
 use Rattle.solver.specs.Suits.{Suits}
-use Rattle.solver.proofs.Changes.{changed_meaning, clear_changes, put_changes}
-use Rattle.solver.proofs.Openings.{last_none, passed}
+use Rattle.solver.specs.Writing.{changed_meaning, set_answer}
+use Rattle.solver.proofs.Changes.{clear_changes, put_changes}
+use Rattle.solver.proofs.Openings.{passed}
 
-not-false : (b : Bool) → not b ≡ false → b ≡ true
+pub not-false : (b : Bool) → not b ≡ false → b ≡ true
 not-false true e = refl
 not-false false e = absurd (true≢false e)
 
@@ -156,3 +156,38 @@ module _ {S M : Type 0} (st : StoreGhosts S) (μ : MeasureGhosts M) (s : Solver 
       let fits = subst (λ (i : ℕ). Fits μ.group i (bounds_of μ s.total t) (λ z. μ.value (deep s.table.rows z))) old.same old.solved.fits in
       negative_cycle_refutes μ.group n (bounds_of μ s.total (set_tie t a b None)) (b ∷ way q c.up a) c.sum c.cycle c.negative (λ z. μ.value (deep s.table.rows z))
       (raised_fits μ.group n (bounds_of μ s.total t) (bounds_of μ s.total (set_tie t a b None)) (λ z. μ.value (deep s.table.rows z)) (cleared_raised μ s.total t a b n) fits)
+
+-- what a pair's checks say of a store that has it, and of one in which it is tied
+module _ (m : StoreMeaning) (a b : ℕ) (none : untie_refusal m a b ≡ None) where
+  tied_pair : is_some (m.tie a b) ≡ true
+  tied_pair = not-false (is_some (m.tie a b)) (passed (not (is_some (m.tie a b))) PairEmpty [] (rest_none m a b (when (not (is_some (m.tie a b))) PairEmpty ∷ []) none)).0
+
+  -- the store clears the tie, and takes another amount in its place
+  pub set_taken : (o : Option Amount) → set_answer m a b o ≡ Ok tt
+  set_taken None = store_passes m a b (when (not (is_some (m.tie a b))) PairEmpty ∷ []) none _ _ _ _ ∙ cond-true (is_some (m.tie a b)) _ _ tied_pair
+  set_taken (Some w) = store_passes m a b (when (not (is_some (m.tie a b))) PairEmpty ∷ []) none _ _ _ _ ∙ cond-true (is_some (m.tie a b)) _ _ tied_pair
+
+  pub pair_start : a < m.count
+  pair_start = start_known m a b (when (not (is_some (m.tie a b))) PairEmpty ∷ []) none
+
+  pub pair_end : b < m.count
+  pair_end = end_known m a b (when (not (is_some (m.tie a b))) PairEmpty ∷ []) none
+
+-- a pair that was tied can be cleared
+module _ {M : Type 0} (μ : MeasureGhosts M) (m : StoreMeaning) (a b : ℕ) (w : Amount) (room : ℕ) (none : tie_refusal μ m a b w room ≡ None) where
+  abbrev others : List (Option Refusal)
+  others = when (not (μ.admits w)) BadAmount ∷ when (ltb room m.count) ShortBuffer ∷ when (not (is_some (m.tie a b)) && eqb m.free 0) StoreFull ∷ []
+
+  abbrev empty : StoreMeaning → Option Refusal
+  empty m' = when (not (is_some (m'.tie a b))) PairEmpty
+
+  tied_now : set_tie m.tie a b (Some w) a b ≡ Some w
+  tied_now = cond-true (eqb a a && eqb b b) (Some w) (m.tie a b) (and_from (eqb a a) (eqb b b) (eq-eqb a a refl) (eq-eqb b b refl))
+
+  pub tie_stands : untie_refusal (changed_meaning m a b (Some w)) a b ≡ None
+  tie_stands =
+      skips (not (ltb a m.count && ltb b m.count)) UnknownMarker (when (eqb a b) SameMarker ∷ when (m.closed a || m.closed b) ClosedMarker ∷ empty (changed_meaning m a b (Some w)) ∷ [])
+      (first_passed m a b others none).0
+      ∙ skips (eqb a b) SameMarker (when (m.closed a || m.closed b) ClosedMarker ∷ empty (changed_meaning m a b (Some w)) ∷ []) (second_passed m a b others none).0
+      ∙ skips (m.closed a || m.closed b) ClosedMarker (empty (changed_meaning m a b (Some w)) ∷ []) (third_passed m a b others none).0
+      ∙ skips (not (is_some (set_tie m.tie a b (Some w) a b))) PairEmpty [] (ap (λ (o : Option Amount). not (is_some o)) tied_now)

@@ -3,7 +3,6 @@ use Rattle.std.specs.Prelude.{◌≡◌, ℕ, ◌<◌, true, false, Some}
 use Rattle.measure.specs.declared.Amount.{Amount}
 use Rattle.measure.specs.declared.Measure.{Ghosts as MeasureGhosts}
 use Rattle.store.specs.declared.TieStore.{Ghosts as StoreGhosts}
-use Rattle.store.specs.Meaning.{StoreMeaning}
 use Rattle.graph.specs.Theorems.{Solved}
 use Rattle.table.specs.Climb.{deep, up}
 use Rattle.table.specs.declared.table.DepthTable.{DepthTable}

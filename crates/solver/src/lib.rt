@@ -8,7 +8,13 @@ pub mod new;
 pub mod next;
 pub mod open;
 pub mod read;
+pub mod settle;
 pub mod solver;
 pub mod tie;
+pub mod token;
+pub mod trial;
+pub mod undo;
+mod write;
 
 pub use solver::Solver;
+pub use token::{Returned, TrialToken};

@@ -5,6 +5,7 @@ ghost use Rattle.law.specs.Telling.{Tells};
 ghost use Rattle.law.specs.declared.call.State.TheVariants as state;
 ghost use Rattle.solver.specs.Model.{model, standing_of};
 ghost use Rattle.solver.specs.Suits.{Suits};
+ghost use Rattle.solver.specs.Trials.{CanRollBack};
 
 use crate::solver::Solver;
 use law::State;
@@ -17,6 +18,7 @@ impl<S: TieStore, M: Measure> Solver<S, M> {
     pub fn new(store: S, measure: M, total_depth: Amount, number: u32) -> Solver<S, M>
         requires sound { S.TieStore.sound store }
         ensures suits { Suits S.TieStore M.Measure result }
+        ensures trial { CanRollBack S.TieStore M.Measure result }
         ensures standing { (model S.TieStore result).standing ≡ standing_of (S.TieStore.meaning store) total_depth number state.New }
         ensures changes { (model S.TieStore result).changes ≡ 0 }
         ensures tells { Tells M.Measure (model S.TieStore result).standing [] (model S.TieStore result) }

@@ -11,6 +11,7 @@ ghost use Rattle.law.specs.declared.call.Call.TheVariants as call;
 ghost use Rattle.measure.specs.Group.{Lt};
 ghost use Rattle.solver.specs.Model.{model};
 ghost use Rattle.solver.specs.Opening.{Solves};
+ghost use Rattle.solver.specs.Trials.{CanRollBack};
 ghost use Rattle.solver.specs.Suits.{Suits, TableSuits};
 
 use crate::solver::Solver;
@@ -85,6 +86,7 @@ impl<S: TieStore, M: Measure> Solver<S, M> {
     pub fn open(&mut self, cycle: &mut [u16]) -> Result<u16, Refusal>
         requires suits { Suits S.TieStore M.Measure self.old }
         ensures suits { Suits S.TieStore M.Measure self.new }
+        ensures trial { CanRollBack S.TieStore M.Measure self.old → CanRollBack S.TieStore M.Measure self.new }
         ensures answered { Answered M.Measure (model S.TieStore self.old) (call.Open (length cycle.old)) cycle.old (opened result) cycle.new (model S.TieStore self.new) }
         ensures logged { Logged M.Measure (model S.TieStore self.old) (call.Open (length cycle.old)) (opened result) cycle.new (model S.TieStore self.new) }
     {

@@ -6,6 +6,7 @@ ghost use Rattle.law.specs.Results.{changed};
 ghost use Rattle.law.specs.Telling.{Logged};
 ghost use Rattle.law.specs.declared.call.Call.TheVariants as call;
 ghost use Rattle.solver.specs.Model.{model};
+ghost use Rattle.solver.specs.Trials.{CanRollBack};
 ghost use Rattle.solver.specs.Suits.{Suits};
 
 use crate::solver::Solver;
@@ -27,6 +28,7 @@ impl<S: TieStore, M: Measure> Solver<S, M> {
     ) -> Result<(u16, u16), Refusal>
         requires suits { Suits S.TieStore M.Measure self.old }
         ensures suits { Suits S.TieStore M.Measure self.new }
+        ensures trial { CanRollBack S.TieStore M.Measure self.old → CanRollBack S.TieStore M.Measure self.new }
         ensures answered { Answered M.Measure (model S.TieStore self.old) (call.Tie from to amount (length cycle.old)) cycle.old (changed result) cycle.new (model S.TieStore self.new) }
         ensures logged { Logged M.Measure (model S.TieStore self.old) (call.Tie from to amount (length cycle.old)) (changed result) cycle.new (model S.TieStore self.new) }
     {
@@ -59,6 +61,7 @@ impl<S: TieStore, M: Measure> Solver<S, M> {
     pub fn untie(&mut self, from: u16, to: u16) -> Result<(u16, u16), Refusal>
         requires suits { Suits S.TieStore M.Measure self.old }
         ensures suits { Suits S.TieStore M.Measure self.new }
+        ensures trial { CanRollBack S.TieStore M.Measure self.old → CanRollBack S.TieStore M.Measure self.new }
         ensures answered { Answered M.Measure (model S.TieStore self.old) (call.Untie from to) [] (changed result) [] (model S.TieStore self.new) }
         ensures logged { Logged M.Measure (model S.TieStore self.old) (call.Untie from to) (changed result) [] (model S.TieStore self.new) }
     {

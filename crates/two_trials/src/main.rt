@@ -5,6 +5,7 @@
 
 ghost use Rattle.std.specs.Prelude.{◌≡◌};
 ghost use Rattle.solver.specs.Suits.{Suits};
+ghost use Rattle.solver.specs.Trials.{CanRollBack};
 
 use measure::{Amount, Measure, PlainDepth};
 use replay::{end_trial, keep_trial};
@@ -22,7 +23,9 @@ fn try_both<S: TieStore, M: Measure>(
     then: Amount,
 ) -> Option<(u16, u16)>
     requires suits { Suits S.TieStore M.Measure solver.old }
+    requires trial { CanRollBack S.TieStore M.Measure solver.old }
     ensures suits { Suits S.TieStore M.Measure solver.new }
+    ensures trial { CanRollBack S.TieStore M.Measure solver.new }
 {
     let mut cycle = [0u16; 4];
     let Ok((_, kept)) = solver.trial(0, 1, first, &mut cycle) else {

@@ -1,4 +1,4 @@
-use Rattle.std.proofs.Common.{◌≡◌, ℕ, ◌<◌, ◌≤◌, List, length, sym, refl, ap, ◌∙◌, subst, arith, take_all}
+use Rattle.std.proofs.Common.{◌<◌, ◌≤◌, List, length, subst, arith, take_all}
 use Rattle.law.specs.declared.call.Entry.{Entry}
 use Rattle.solver.specs.Model.{model}
 use Rattle.replay.specs.Replays.{log_of, Reached, Replayed}
@@ -12,11 +12,12 @@ loop-i-preserved g c =
     let h : c.loop-i.i < length c.loop-i.entries = omega arith in
     let made = c.answer_to-answer.ensures.made in (
       c.answer_to-answer.ensures.suits,
+      c.answer_to-answer.ensures.trial,
       c.answer_to-answer.ensures.holds,
-      reached_more μ _ _ _ l.entries l.i _ h made l.invariant.2,
-      replayed_more μ _ _ _ l.entries l.i _ h made l.invariant.3,
-      calls_more l.entries _ l.i _ h c.cap-entry.ensures l.invariant.5 l.invariant.4,
-      rest_more l.entries _ l.i _ l.invariant.5,
+      reached_more μ _ _ _ l.entries l.i _ h made l.invariant.3,
+      replayed_more μ _ _ _ l.entries l.i _ h made l.invariant.4,
+      calls_more l.entries _ l.i _ h c.cap-entry.ensures l.invariant.6 l.invariant.5,
+      rest_more l.entries _ l.i _ l.invariant.6,
     )
 
 pub returns : goal.returns
@@ -29,8 +30,9 @@ returns g c =
     let all = take_all c.loop-i.i c.loop-i.entries past in
     record {
       suits = l.invariant.0;
-      holds = l.invariant.1;
-      calls = calls_all l.entries c.args.entries.now l.i past l.invariant.4 l.invariant.5;
-      ran = reached_ran μ m _ m' (subst (λ (es : List Entry). Reached μ m (log_of es) m') all l.invariant.2);
-      lawful = subst (λ (es : List Entry). Replayed μ m es m') all l.invariant.3;
+      trial = l.invariant.1;
+      holds = l.invariant.2;
+      calls = calls_all l.entries c.args.entries.now l.i past l.invariant.5 l.invariant.6;
+      ran = reached_ran μ m _ m' (subst (λ (es : List Entry). Reached μ m (log_of es) m') all l.invariant.3);
+      lawful = subst (λ (es : List Entry). Replayed μ m es m') all l.invariant.4;
     }

@@ -1,7 +1,6 @@
-use Rattle.std.proofs.Common.{◌≡◌, ℕ, [], Option, sym, refl, ◌∙◌, subst}
+use Rattle.std.proofs.Common.{ℕ, [], sym, refl, ◌∙◌, subst}
 use Rattle.law.specs.Calls.{Answered}
 use Rattle.law.specs.declared.call.Call.TheVariants as call
-use Rattle.solver.specs.declared.token.TrialToken.{TrialToken}
 use Rattle.solver.specs.Model.{model}
 use Rattle.solver.specs.Tokens.{committed}
 use Rattle.replay.specs.Replays.{Holds}
@@ -18,6 +17,7 @@ returns g c =
     let told = subst (λ (k : ℕ). Answered μ m (call.Commit k) [] (committed c.commit.result) [] m') (sym c.number.ensures ∙ c.if-number.false) c.commit.ensures.answered in
     record {
       suits = c.commit.ensures.suits;
+      trial = c.commit.ensures.trial c.requires.trial;
       made = bare μ m m' (call.Commit c.args.number) _ _ [] c.committing.ensures.answer refl told;
       holds = subst (Holds m') (sym c.committing.ensures.held) (commit_holds μ m m' c.args.number held c.commit.result told c.commit.ensures.back (subst (Holds m) c.in-Some.is c.requires.holds));
     }

@@ -1,4 +1,4 @@
-use Rattle.std.proofs.Common.{◌≡◌, refl, rules}
+use Rattle.std.proofs.Common.{refl, rules}
 use Rattle.law.specs.declared.call.Call.TheVariants as call
 use Rattle.replay.proofs.Making.{part}
 use Rattle.replay.proofs.calls.path.Goals as goal

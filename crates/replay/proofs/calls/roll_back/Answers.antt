@@ -1,7 +1,6 @@
-use Rattle.std.proofs.Common.{◌≡◌, ℕ, [], Option, sym, refl, ◌∙◌, subst}
+use Rattle.std.proofs.Common.{ℕ, [], sym, refl, ◌∙◌, subst}
 use Rattle.law.specs.Calls.{Answered}
 use Rattle.law.specs.declared.call.Call.TheVariants as call
-use Rattle.solver.specs.declared.token.TrialToken.{TrialToken}
 use Rattle.solver.specs.Model.{model}
 use Rattle.solver.specs.Tokens.{rolled_back}
 use Rattle.replay.specs.Replays.{Holds}
@@ -18,6 +17,7 @@ returns g c =
     let told = subst (λ (k : ℕ). Answered μ m (call.RollBack k) [] (rolled_back c.roll_back.result) [] m') (sym c.number.ensures ∙ c.if-number.false) c.roll_back.ensures.answered in
     record {
       suits = c.roll_back.ensures.suits;
+      trial = c.roll_back.ensures.trial;
       made = bare μ m m' (call.RollBack c.args.number) _ _ [] c.rolling_back.ensures.answer refl told;
       holds = subst (Holds m') (sym c.rolling_back.ensures.held) (roll_back_holds μ m m' c.args.number held c.roll_back.result told c.roll_back.ensures.back (subst (Holds m) c.in-Some.is c.requires.holds));
     }

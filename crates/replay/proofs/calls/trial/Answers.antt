@@ -1,4 +1,4 @@
-use Rattle.std.proofs.Common.{◌≡◌, refl, rules}
+use Rattle.std.proofs.Common.{refl, rules}
 use Rattle.law.specs.declared.call.Call.TheVariants as call
 use Rattle.replay.proofs.Holding.{trial_holds, trial_refused}
 use Rattle.replay.proofs.Making.{part}
@@ -9,6 +9,7 @@ returns-in-None g c =
     let done = c.in-Ok.ensures in
     record {
       suits = done.suits;
+      trial = done.trial c.requires.trial;
       made = part g.M.Measure _ _ (λ k. call.Trial c.args.from c.args.to c.args.amount k) _ _ c.args.room _ c.trial.new.cycle _ refl (λ j. refl) (search rules) (search rules) done.answered;
       holds = trial_holds g.M.Measure _ _ _ _ _ _ _ _ _ _ c.in-Ok.new done.answered done.numbered;
     }
@@ -18,6 +19,7 @@ returns-in-Err g c =
     let done = c.in-Err.ensures in
     record {
       suits = done.suits;
+      trial = done.trial c.requires.trial;
       made = part g.M.Measure _ _ (λ k. call.Trial c.args.from c.args.to c.args.amount k) _ _ c.args.room _ c.trial.new.cycle _ refl (λ j. refl) (search rules) (search rules) done.answered;
       holds = trial_refused g.M.Measure _ _ _ _ _ _ _ _ c.in-Err.why c.args.token done.answered c.requires.holds;
     }

@@ -1,4 +1,4 @@
-use Rattle.std.proofs.Common.{◌≡◌, Option, subst, arith}
+use Rattle.std.proofs.Common.{Option, subst, arith}
 use Rattle.measure.proofs.Within.{wider_to}
 use Rattle.table.specs.declared.table.DepthTable.{DepthTable}
 use Rattle.solver.specs.Changing.{SameSize}

@@ -1,4 +1,4 @@
-use Rattle.std.proofs.Common.{◌≡◌, ◌<◌, sym, ◌∙◌}
+use Rattle.std.proofs.Common.{◌<◌, sym}
 use Rattle.law.specs.Refusals.{bad_tie, lowest}
 use Rattle.law.proofs.Scans.{lowest_found, lowest_step}
 use Rattle.solver.proofs.solver.Solver.bad_tie.Goals as goal

@@ -1,4 +1,4 @@
-use Rattle.std.proofs.Common.{◌≡◌, sym, ◌∙◌, subst, arith}
+use Rattle.std.proofs.Common.{sym, subst, arith}
 use Rattle.measure.proofs.Within.{wider_to}
 use Rattle.measure.specs.declared.Amount.{Amount}
 use Rattle.solver.proofs.solver.Solver.check_opening.Goals as goal

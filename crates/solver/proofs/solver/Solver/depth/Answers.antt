@@ -1,4 +1,4 @@
-use Rattle.std.proofs.Common.{◌≡◌, ◌<◌, false, [], Ok, sym, ap, ◌∙◌, subst, rules}
+use Rattle.std.proofs.Common.{◌≡◌, ◌<◌, false, [], Ok, sym, subst, rules}
 use Rattle.law.proofs.Tellings.{goes_on}
 use Rattle.law.specs.Calls.{Answered}
 use Rattle.law.specs.Refusals.{is_new}

@@ -1,8 +1,5 @@
-use Rattle.std.proofs.Common.{◌≡◌, ℕ, ◌+◌, ◌/◌, ◌%◌, ◌<◌, ◌≤◌, length, None, sym, refl, ap, ◌∙◌, subst, arith, rules}
-use Rattle.measure.specs.declared.Amount.{Amount}
-use Rattle.graph.specs.Theorems.{Solved}
-use Rattle.table.specs.Climb.{deep, up}
-use Rattle.table.specs.declared.row.Row.{Row}
+use Rattle.std.proofs.Common.{◌≡◌, ◌+◌, ◌/◌, ◌%◌, length, None, sym, refl, ◌∙◌, subst, arith, rules}
+use Rattle.table.specs.Climb.{up}
 use Rattle.update.specs.Lowers.{Lowers}
 use Rattle.update.specs.declared.work.Lowering.{Lowering}
 use Rattle.update.proofs.Cycles.{cycle_leads}

@@ -1,4 +1,4 @@
-use Rattle.std.proofs.Common.{◌≡◌, ℕ, ◌<◌, sym, refl, ap, ◌∙◌, subst, arith}
+use Rattle.std.proofs.Common.{ℕ, sym, ap, ◌∙◌, subst, arith}
 use Rattle.store.specs.Meaning.{set_tie}
 use Rattle.update.specs.Lowering.{NegativeCycle}
 use Rattle.update.specs.Lowers.{Lowers}

@@ -1,4 +1,4 @@
-use Rattle.std.proofs.Common.{◌≡◌, length, Ok, sym, refl, ap, ◌∙◌, subst, rules}
+use Rattle.std.proofs.Common.{◌≡◌, length, Ok, sym, ◌∙◌, rules}
 use Rattle.law.proofs.Tellings.{goes_on}
 use Rattle.law.specs.declared.call.Call.TheVariants as call
 use Rattle.law.specs.declared.call.State.TheVariants as state
@@ -36,6 +36,7 @@ returns-in-Ok g c =
     let told = opened_answered st μ s c.requires.suits new before none c.in-Ok.table solved.0 c.n.result c.solve.new.cycle c.n.ensures solved.1 in
     record {
       suits = opened_suits st μ s c.requires.suits new before none c.in-Ok.table solved.0;
+      trial = λ h. tt;
       answered = told;
       logged = goes_on μ m _ (call.Open (length before)) before _ _ told;
     }
@@ -51,4 +52,4 @@ returns-in-Err-solve g c =
     let none = none_of (opening_refusal μ s.total (st.meaning s.store) (length before)) (sym c.check_opening.ensures ∙ ok) in
     let new : c.args.self.now.state ≡ state.New = search rules in
     let told = contradiction_answered st μ s c.requires.suits new before none c.solve.new.cycle c.in-Err-solve.length c.in-Err-solve.ensures in
-    record { suits = c.requires.suits; answered = told; logged = goes_on μ m m (call.Open (length before)) before _ _ told }
+    record { suits = c.requires.suits; trial = λ h. h; answered = told; logged = goes_on μ m m (call.Open (length before)) before _ _ told }

@@ -1,8 +1,8 @@
-use Rattle.std.proofs.Common.{◌≡◌, ◌<◌, ◌≤◌, false, length, sym, ap, ◌∙◌, subst, arith, rules}
+use Rattle.std.proofs.Common.{◌≡◌, ◌<◌, ◌≤◌, false, length, sym, ap, ◌∙◌, rules}
 use Rattle.graph.specs.Tree.{path_to}
 use Rattle.law.proofs.Tellings.{goes_on}
 use Rattle.law.specs.Refusals.{is_new}
-use Rattle.law.specs.Calls.{over_front, path}
+use Rattle.law.specs.Calls.{over_front}
 use Rattle.law.specs.declared.call.Call.TheVariants as call
 use Rattle.solver.specs.Model.{model}
 use Rattle.table.specs.Climb.{up}

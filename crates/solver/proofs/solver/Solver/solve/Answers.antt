@@ -1,4 +1,4 @@
-use Rattle.std.proofs.Common.{◌≡◌, ℕ, ◌+◌, List, set, replicate, sym, refl, ap, ◌∙◌, subst, arith}
+use Rattle.std.proofs.Common.{◌≡◌, ℕ, ◌+◌, List, set, replicate, refl, ap, ◌∙◌, subst, arith}
 use Rattle.measure.specs.declared.Amount.{Amount}
 use Rattle.bounds.specs.Scopes.{in_scope}
 use Rattle.bounds.specs.declared.scope.Scope.TheVariants.{First}

@@ -1,6 +1,5 @@
-use Rattle.std.proofs.Common.{◌≡◌, ℕ, ◌<◌, true, length, Some, None, Ok, Err, Option, sym, refl, ap, ◌∙◌, subst, rules}
+use Rattle.std.proofs.Common.{◌≡◌, true, length, Some, Ok, sym, refl, ◌∙◌, subst, rules}
 use Rattle.measure.specs.declared.Amount.{Amount}
-use Rattle.table.specs.declared.table.DepthTable.{DepthTable}
 use Rattle.table.specs.Climb.{up}
 use Rattle.store.specs.Meaning.{set_tie}
 use Rattle.update.proofs.Cycles.{cycle_leads}
@@ -15,6 +14,7 @@ use Rattle.solver.proofs.Openings.{none_of, some_of}
 use Rattle.law.proofs.Answers.{refused}
 use Rattle.solver.proofs.Changes.{adopted}
 use Rattle.solver.proofs.Ties.{end_known, not_new, start_known, tie_admitted, tie_contradicted, tie_first, tie_put, tie_room}
+use Rattle.solver.proofs.Trials.{adopted_state, open_can_roll_back}
 use Rattle.solver.proofs.solver.Solver.tie.Goals as goal
 
 pub next_table-requires : goal.next_table-requires
@@ -44,7 +44,7 @@ returns-in-Err g c =
     let open-now : c.args.self.now.state ≡ state.Open = search rules in
     let some = some_of (tie_refusal μ (st.meaning s.store) c.args.from c.args.to c.args.amount (length before)) c.in-Err.why (sym c.in-Err.ensures) in
     let told = refused μ m k before _ before m c.in-Err.why (tie_first st μ s c.requires.suits open-now c.args.from c.args.to c.args.amount (length before) ∙ some) refl refl refl in
-    record { suits = c.requires.suits; answered = told; logged = goes_on μ m m k before _ _ told }
+    record { suits = c.requires.suits; trial = λ h. h; answered = told; logged = goes_on μ m m k before _ _ told }
 
 pub trail-requires : goal.trail-requires
 trail-requires g c =
@@ -75,7 +75,8 @@ returns-in-Ok g c =
     c.put.new.self c.put.ensures.sound (c.put.ensures.after ∙ tie_put μ (st.meaning s.store) a b w (length before) none)
     k before (tie_first st μ s c.requires.suits open-now a b w (length before) ∙ none) refl refl (λ m'. refl) refl
     c.adopt.result c.adopt.new.self c.in-Ok.next c.in-Ok.ensures c.adopt.ensures in
-    record { suits = done.0; answered = done.1; logged = goes_on μ (model st s) _ k before _ _ done.1 }
+    let still = adopted_state μ _ c.in-Ok.next c.adopt.result c.adopt.new.self c.adopt.ensures ∙ open-now in
+    record { suits = done.0; trial = λ h. open_can_roll_back st μ c.adopt.new.self still; answered = done.1; logged = goes_on μ (model st s) _ k before _ _ done.1 }
 
 pub returns-in-Err-next_table : goal.returns-in-Err-next_table
 returns-in-Err-next_table g c =
@@ -93,4 +94,4 @@ returns-in-Err-next_table g c =
     let none = none_of (tie_refusal μ (st.meaning s.store) a b w (length before)) (sym c.check_tie.ensures ∙ ok) in
     let told = tie_contradicted st μ s c.requires.suits open-now a b w before c.trail.new.out c.trail.result (up c.in-Err-next_table.work.rows) none c.in-Err-next_table.ensures
     c.trail.ensures.count c.trail.ensures.out in
-    record { suits = c.requires.suits; answered = told; logged = goes_on μ m m k before _ _ told }
+    record { suits = c.requires.suits; trial = λ h. h; answered = told; logged = goes_on μ m m k before _ _ told }

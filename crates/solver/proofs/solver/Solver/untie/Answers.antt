@@ -1,4 +1,4 @@
-use Rattle.std.proofs.Common.{◌≡◌, [], None, Ok, sym, refl, ap, ◌∙◌, subst, rules}
+use Rattle.std.proofs.Common.{◌≡◌, [], None, Ok, sym, refl, ◌∙◌, rules}
 use Rattle.table.specs.Climb.{up}
 use Rattle.law.proofs.Tellings.{goes_on}
 use Rattle.law.specs.declared.call.Call.TheVariants as call
@@ -9,6 +9,7 @@ use Rattle.solver.specs.Model.{model}
 use Rattle.solver.proofs.Changes.{adopted}
 use Rattle.solver.proofs.Openings.{none_of}
 use Rattle.solver.proofs.Ties.{not_new, tie_cleared, untie_first, untie_fits}
+use Rattle.solver.proofs.Trials.{adopted_state, open_can_roll_back}
 use Rattle.solver.proofs.solver.Solver.untie.Goals as goal
 
 pub returns-in-Ok : goal.returns-in-Ok
@@ -26,7 +27,8 @@ returns-in-Ok g c =
     c.clear.new.self c.clear.ensures.sound (c.clear.ensures.after ∙ tie_cleared (st.meaning s.store) a b none)
     k [] (untie_first st μ s c.requires.suits open-now a b ∙ none) refl refl (λ m'. refl) refl
     c.adopt.result c.adopt.new.self c.in-Ok.next c.in-Ok.ensures c.adopt.ensures in
-    record { suits = done.0; answered = done.1; logged = goes_on μ (model st s) _ k [] _ _ done.1 }
+    let still = adopted_state μ _ c.in-Ok.next c.adopt.result c.adopt.new.self c.adopt.ensures ∙ open-now in
+    record { suits = done.0; trial = λ h. open_can_roll_back st μ c.adopt.new.self still; answered = done.1; logged = goes_on μ (model st s) _ k [] _ _ done.1 }
 
 pub returns-in-Err-next_table : goal.returns-in-Err-next_table
 returns-in-Err-next_table g c =

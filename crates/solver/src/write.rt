@@ -1,13 +1,13 @@
 //! Writing a pair whose checks have passed.
 
 ghost use Rattle.std.specs.Prelude.{◌≡◌, Ok};
-ghost use Rattle.checks.specs.Writing.{changed_meaning, set_answer};
+ghost use Rattle.solver.specs.Writing.{changed_meaning, set_answer};
 
 use measure::Amount;
 use store::TieStore;
 
-/// Gives the pair an amount, or none, where the store does not refuse it.
-pub fn set_tie<S: TieStore>(store: &mut S, from: u16, to: u16, amount: Option<Amount>)
+// Gives the pair an amount, or none, where the store does not refuse it.
+pub(crate) fn set_tie<S: TieStore>(store: &mut S, from: u16, to: u16, amount: Option<Amount>)
     requires sound { S.TieStore.sound store.old }
     requires taken { set_answer (S.TieStore.meaning store.old) from to amount ≡ Ok tt }
     ensures sound { S.TieStore.sound store.new }

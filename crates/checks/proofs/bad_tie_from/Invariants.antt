@@ -1,6 +1,0 @@
-use Rattle.std.proofs.Common.{◌≡◌, None}
-use Rattle.law.specs.Refusals.{bad_tie, lowest}
-use Rattle.checks.proofs.bad_tie_from.Given as goal
-
-abbrev pub invariant-loop-b : goal.invariant-loop-b
-invariant-loop-b g l = lowest l.b (λ b. bad_tie g.M.Measure l.a b ((g.S.TieStore.meaning l.store).tie l.a b)) ≡ None

@@ -1,4 +1,0 @@
-mod Opens
-mod Starts
-mod Uses
-mod Moves
