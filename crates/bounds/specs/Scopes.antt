@@ -1,5 +1,5 @@
 -- The ties that count. Assumes nothing.
-use Rattle.std.specs.Prelude.{ℕ, ◌+◌, ◌*◌, cond, None, nat_lt}
+use Rattle.std.specs.Prelude.{◌+◌, ◌*◌, cond, None, nat_lt}
 use Rattle.store.specs.Meaning.{set_tie}
 use Rattle.law.specs.Standing.{Ties}
 use Rattle.bounds.specs.declared.scope.Scope.{Scope}

@@ -1,17 +1,15 @@
 -- The cycle that a clash leaves. Assumes nothing.
-use Rattle.std.proofs.Common.{◌≡◌, ℕ, zero, suc, ◌+◌, ◌-◌, ◌<◌, ◌≤◌, Bool, true, false, ◌⊎◌, List, [], ◌∷◌, ◌++◌, sym, refl, ap, ◌∙◌, subst, inl, inr, ⊎_elim, arith}
-use mathlib.Core.Option.{Option, some}
+use Rattle.std.proofs.Common.{◌≡◌, ℕ, zero, suc, ◌-◌, ◌<◌, ◌≤◌, Bool, true, List, [], ◌∷◌, ◌++◌, sym, refl, ap, ◌∙◌, subst, ⊎_elim, arith}
 use Rattle.measure.specs.Group.{OrderedGroup}
 use Rattle.graph.specs.Graph.{Weight, In, Different, Edge, Walk, Cycle, Fits}
-use Rattle.graph.specs.Tree.{climb, way, Tree, Tight}
-use Rattle.graph.specs.Change.{Lowered}
+use Rattle.graph.specs.Tree.{climb, way}
 use Rattle.graph.proofs.Regrow.{Born, Grown, Clash}
 use Rattle.graph.proofs.Regrow.Born.{same, first, later}
 use Rattle.graph.proofs.Sums.{le_of_eq, stands_on, cycle_negative}
 use Rattle.graph.proofs.Lists.{in_append, in_one, different_push, different_append}
 use Rattle.graph.proofs.Walks.{walk_append, walk_push}
 use Rattle.graph.proofs.Trees.{Height, height_of, on_way, way_different}
-use Rattle.graph.proofs.Relabels.{not_both, lowered_walk, tree_way, climb_inside}
+use Rattle.graph.proofs.Relabels.{lowered_walk, tree_way, climb_inside}
 
 -- a list with one marker more, read as a cycle
 to_cycle : (g : OrderedGroup) (n : ℕ) (w : Weight g) (x : ℕ) (ms ns : List ℕ) (z : ℕ) (s : g.carrier)

@@ -1,7 +1,6 @@
 -- What happens to the distances when a weight rises: the old depths still fit, the markers whose way is not hit keep
 -- theirs, and the others are settled one after another. Assumes nothing.
-use Rattle.std.proofs.Common.{◌≡◌, ℕ, ◌<◌, Bool, true, false, ◌⊎◌}
-use mathlib.Core.Option.{some}
+use Rattle.std.proofs.Common.{◌≡◌, ℕ, ◌<◌, Bool, true, false}
 use Rattle.measure.specs.Group.{OrderedGroup}
 use Rattle.graph.specs.Change.{Raised}
 use Rattle.graph.specs.Graph.{Weight, Edge, Fits}

@@ -1,11 +1,9 @@
 -- The labels when a weight rises, and trees by rank. Assumes nothing.
-use Rattle.std.proofs.Common.{◌≡◌, ℕ, zero, suc, ◌+◌, ◌<◌, ◌≤◌, Bool, true, false, ◌⊎◌, sym, refl, ap, ◌∙◌, subst, inl, inr, arith}
+use Rattle.std.proofs.Common.{◌≡◌, ℕ, zero, suc, ◌<◌, true, false, ◌⊎◌, refl, inl, inr, arith}
 use Rattle.measure.specs.Group.{OrderedGroup}
-use Rattle.graph.specs.Graph.{Weight, Edge, Fits}
-use Rattle.graph.specs.Tree.{climb, Tree}
-use Rattle.graph.proofs.Relabel.{Relabel}
-use Rattle.graph.specs.Change.{Raised}
-use Rattle.graph.proofs.Raise.{RaisedFits, Started, RaiseStarts, RaiseEnds, Ranked}
+use Rattle.graph.specs.Graph.{Edge}
+use Rattle.graph.specs.Tree.{climb}
+use Rattle.graph.proofs.Raise.{RaisedFits, RaiseStarts, RaiseEnds, Ranked}
 use Rattle.graph.proofs.Sums.{lowered_le, ahead_first}
 use Rattle.graph.proofs.Trees.{short_climbs}
 use Rattle.graph.proofs.Relabels.{which}

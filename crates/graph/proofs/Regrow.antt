@@ -1,6 +1,6 @@
 -- The parents when one weight falls: a marker whose label falls takes the marker that lowered it for its parent.
 -- Assumes nothing.
-use Rattle.std.proofs.Common.{◌≡◌, ℕ, zero, suc, ◌<◌, ◌≤◌, Bool, true, false, ◌⊎◌, List, ◌∷◌, ◌++◌}
+use Rattle.std.proofs.Common.{◌≡◌, ℕ, suc, ◌<◌, ◌≤◌, Bool, true, false, ◌⊎◌, ◌∷◌, ◌++◌}
 use Rattle.measure.specs.Group.{OrderedGroup}
 use Rattle.graph.specs.Graph.{Weight, Edge, Fits, Cycle}
 use Rattle.graph.specs.Tree.{climb, way, Tree, Tight}

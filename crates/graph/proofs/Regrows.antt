@@ -1,12 +1,10 @@
 -- The parents when one weight falls. Assumes nothing.
-use Rattle.std.proofs.Common.{◌≡◌, ℕ, zero, suc, ◌+◌, ◌-◌, ◌<◌, ◌≤◌, Bool, true, false, ◌⊎◌, sym, refl, ap, ◌∙◌, subst, inl, inr, ⊎_elim, true≢false, arith}
-use mathlib.Core.Option.{Option, some}
+use Rattle.std.proofs.Common.{◌≡◌, ℕ, zero, suc, ◌-◌, ◌<◌, Bool, true, false, ◌⊎◌, sym, refl, ap, ◌∙◌, inl, inr, arith}
 use native.Mathlib.Decide.{ℕ_discrete}
 use Rattle.measure.specs.Group.{OrderedGroup}
-use Rattle.graph.specs.Graph.{Weight, Edge, Fits}
-use Rattle.graph.specs.Tree.{climb, Tree, Tight}
-use Rattle.graph.specs.Change.{Lowered}
-use Rattle.graph.proofs.Relabel.{Relabel, Settles}
+use Rattle.graph.specs.Graph.{Weight, Edge}
+use Rattle.graph.specs.Tree.{climb, Tight}
+use Rattle.graph.proofs.Relabel.{Settles}
 use Rattle.graph.proofs.Regrow.{Born, Grown, Regrafted, Turned, Ended, GrowsOne, Regrown}
 use Rattle.graph.proofs.Regrow.Born.{same, first, later}
 use Rattle.graph.proofs.Sums.{le_dec, le_of_eq, not_fallen, tight_again}

@@ -1,5 +1,5 @@
 -- Sums and orders in an ordered group. Assumes nothing.
-use Rattle.std.proofs.Common.{◌≡◌, ◌⊎◌, sym, refl, ap, ◌∙◌, subst, inl, inr, ⊎_elim}
+use Rattle.std.proofs.Common.{◌≡◌, sym, ap, ◌∙◌, subst, ⊎_elim}
 use Rattle.measure.specs.Group.{OrderedGroup}
 
 module _ (g : OrderedGroup) where

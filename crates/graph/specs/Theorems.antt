@@ -1,8 +1,8 @@
 -- What is proved of graphs and trees. Assumes nothing.
-use Rattle.std.specs.Prelude.{◌≡◌, ℕ, ◌-◌, ◌<◌, ◌≤◌, List, [], ◌∷◌, length}
+use Rattle.std.specs.Prelude.{◌≡◌, ℕ, ◌<◌, ◌≤◌, List, [], ◌∷◌, length}
 use Rattle.measure.specs.Group.{OrderedGroup}
-use Rattle.graph.specs.Graph.{Weight, In, Different, Edge, Fits, Walk, Cycle, PathTo, Distance}
-use Rattle.graph.specs.Tree.{climb, path_to, ShortestPathTree, Tree, Tight}
+use Rattle.graph.specs.Graph.{Weight, In, Different, Edge, Fits, Walk, Cycle}
+use Rattle.graph.specs.Tree.{climb, ShortestPathTree, Tree, Tight}
 
 -- if some depths fit, no closed walk adds up to less than zero
 abbrev pub NoNegativeClosedWalk : OrderedGroup → Type 0

@@ -1,6 +1,6 @@
 -- What each call answers, and what it leaves behind. Free are only the choice among the parents of shortest paths, where
 -- `Keeps` leaves one, and the choice among the cycles that show a contradiction. Assumes nothing.
-use Rattle.std.specs.Prelude.{◌≡◌, ℕ, zero, suc, ◌+◌, ◌<◌, min, Bool, cond, not, ◌⊎◌, List, [], ◌∷◌, ◌++◌, length, Some, None, Option, ◌==◌}
+use Rattle.std.specs.Prelude.{◌≡◌, ℕ, zero, suc, ◌+◌, ◌<◌, min, Bool, cond, not, ◌⊎◌, List, [], ◌∷◌, length, Some, None, Option, ◌==◌}
 use Rattle.measure.specs.declared.Amount.{Amount}
 use Rattle.measure.specs.declared.Measure as measure
 use Rattle.measure.specs.Group.{Lt}

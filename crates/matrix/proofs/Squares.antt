@@ -9,7 +9,6 @@ use Rattle.store.specs.Meaning.{StoreMeaning, same_pair, set_tie, put_answer, pu
 use Rattle.store.proofs.Calls.{same_meaning, Writable, put_over, put_new, put_free}
 use Rattle.store.proofs.Records.{by_pair}
 use Rattle.matrix.specs.Matrix.{cell_at, Emptied, cell_tie, tie_count, matrix_meaning, MatrixSound, size_answer}
-use Rattle.matrix.specs.Laws.{matrix_lawful}
 use Rattle.matrix.proofs.Counts.{count_same, count_more, count_most, count_none}
 
 -- ---- a pair's cell

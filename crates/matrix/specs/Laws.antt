@@ -1,5 +1,5 @@
 -- A sound matrix is lawful. Assumes nothing.
-use Rattle.std.specs.Prelude.{◌≡◌, ℕ, ◌&&◌, List, None, Option, nat_lt, refl}
+use Rattle.std.specs.Prelude.{ℕ, ◌&&◌, List, None, Option, nat_lt, refl}
 use Rattle.std.proofs.lemmas.Bool.{cond-false, eq-eqb, and_left, and_right, le-ltb, not_from_true}
 use Rattle.measure.specs.declared.Amount.{Amount}
 use Rattle.store.specs.Meaning.{Lawful}

@@ -1,5 +1,5 @@
 -- Strict depth keeps the laws. Assumes nothing.
-use Rattle.std.specs.Prelude.{◌≡◌, ℕ, ◌+◌, ◌*◌, Bool, true, ◌&&◌, ℤ, pos, negsuc, ◌+ℤ◌, ◌≤ℤ◌, int_le, refl}
+use Rattle.std.specs.Prelude.{◌≡◌, ◌*◌, true, ◌&&◌, ℤ, pos, negsuc, ◌+ℤ◌, ◌≤ℤ◌, int_le, refl}
 use Rattle.std.proofs.Common.{ap, ⊎_elim, arith}
 use Rattle.std.proofs.lemmas.Int.{ints}
 use Rattle.std.proofs.lemmas.Bool.{and_parts}
@@ -7,7 +7,6 @@ use Rattle.measure.specs.Bounds.{UpTo, up_to}
 use Rattle.measure.specs.Integers.{Pair, pairs}
 use Rattle.measure.specs.Laws.{MeasureLaws}
 use Rattle.measure.specs.Plain.{at_most, within_of, same_amount}
-use Rattle.measure.specs.declared.Amount.{Amount}
 
 one_mark : (z : ℤ) → (int_le (negsuc 0) z && int_le z (pos 0)) ≡ true → UpTo 1 z
 one_mark z h =

@@ -10,7 +10,7 @@ use Rattle.line_text.specs.Lines.Said.{total_depth, marker, tie, trailer}
 use Rattle.sheet_text.specs.Calls.{Checked, Roomy}
 use Rattle.sheet_text.specs.Format.{Tied}
 use Rattle.sheet_text.specs.Naming.{place_of}
-use Rattle.sheet_text.specs.Reading.{Known, start, read_depth, add_name, read_marker, put_tie, add_tie, read_tie, finish, read_trailer, read_line, Outcome, Answer}
+use Rattle.sheet_text.specs.Reading.{Known, read_depth, add_name, read_marker, put_tie, add_tie, read_tie, finish, read_trailer, read_line, Outcome, Answer}
 use Rattle.sheet_text.specs.Reading.Outcome.{ended, good, faulty}
 use Rattle.sheet_text.specs.Tying.{no_tie, tied_in, store_of, tie_answer}
 use Rattle.sheet_text.specs.declared.faults.Code.{Code}

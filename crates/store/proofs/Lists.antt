@@ -1,5 +1,5 @@
 -- A list of records after a call. Assumes nothing.
-use Rattle.std.proofs.Common.{◌≡◌, ℕ, ◌+◌, ◌-◌, ◌<◌, ◌≤◌, List, length, set, Some, None, Ok, sym, refl, ap, ◌∙◌, subst, arith, length-set, get_or-set_other, get_or-set_same}
+use Rattle.std.proofs.Common.{◌≡◌, ℕ, ◌+◌, ◌-◌, ◌<◌, ◌≤◌, List, length, set, None, Ok, sym, refl, ap, ◌∙◌, subst, arith, length-set, get_or-set_other, get_or-set_same}
 use Rattle.measure.specs.declared.Amount.{Amount}
 use Rattle.store.specs.declared.TieRecord.{TieRecord}
 use Rattle.store.specs.Meaning.{StoreMeaning, set_tie, put_answer, put_after, clear_answer, clear_after, put_done, clear_done}

@@ -1,5 +1,5 @@
 -- Rows read as functions of the marker, and climbs by their parents. Assumes nothing.
-use Rattle.std.specs.Prelude.{◌≡◌, ℕ, ◌<◌, ◌≤◌, List, ◌++◌, length, pos, slice_index_or}
+use Rattle.std.specs.Prelude.{◌≡◌, ℕ, ◌<◌, ◌≤◌, List, pos, slice_index_or}
 use Rattle.measure.specs.declared.Amount.{Amount}
 pub use Rattle.graph.specs.Buffer.{over_front}
 use Rattle.graph.specs.Tree.{climb}

@@ -1,5 +1,5 @@
 -- Where an edge falls: nothing changes, or it closes a cycle with the old parents. Assumes nothing.
-use Rattle.std.proofs.Common.{◌≡◌, ℕ, zero, suc, ◌+◌, ◌-◌, ◌<◌, Bool, true, false, ◌⊎◌, List, [], ◌∷◌, ◌++◌, Decides, MatchBool, sym, refl, ◌∙◌, subst, inl, inr, true≢false}
+use Rattle.std.proofs.Common.{◌≡◌, ℕ, zero, suc, ◌-◌, ◌<◌, Bool, true, false, ◌⊎◌, List, [], ◌∷◌, ◌++◌, Decides, MatchBool, sym, refl, ◌∙◌, subst, inl, inr, true≢false}
 use Rattle.measure.specs.Group.{OrderedGroup}
 use Rattle.graph.specs.Graph.{Weight, Different, Edge, Walk, Cycle}
 use Rattle.graph.specs.Tree.{climb, way}

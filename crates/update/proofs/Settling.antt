@@ -1,6 +1,5 @@
 -- One turn of the loop that settles the markers that have fallen. Assumes nothing.
 use Rattle.std.proofs.Common.{◌≡◌, ℕ, suc, ◌+◌, ◌-◌, ◌<◌, ◌≤◌, Bool, true, List, length, set, sym, refl, ap, ◌∙◌, subst, true≢false, arith}
-use Rattle.measure.specs.declared.Amount.{Amount}
 use Rattle.measure.specs.declared.Measure as measure
 use Rattle.measure.proofs.Within.{wider_to}
 use Rattle.graph.specs.Graph.{Weight}

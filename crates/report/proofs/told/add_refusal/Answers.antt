@@ -1,4 +1,4 @@
-use Rattle.std.proofs.Common.{◌≡◌, ℕ, ◌<◌, length, Option, sym, ◌∙◌, subst, rules}
+use Rattle.std.proofs.Common.{ℕ, length, Option, sym, subst}
 use Rattle.sheet_text.specs.Naming.{names_of}
 use Rattle.report.specs.Refusing.{Front}
 use Rattle.report.proofs.Cycles.{front_below}

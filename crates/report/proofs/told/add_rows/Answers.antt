@@ -1,9 +1,7 @@
-use Rattle.std.proofs.Common.{◌≡◌, ℕ, ◌+◌, ◌<◌, List, [], ◌++◌, get_or, vec_items, sym, refl, ap, ◌∙◌, subst, arith, rules}
-use Rattle.measure.specs.declared.Amount.{Amount}
+use Rattle.std.proofs.Common.{ℕ, ◌<◌, List, [], ◌++◌, get_or, vec_items, ap, ◌∙◌, arith}
 use Rattle.sheet_text.specs.Naming.{names_of}
 use Rattle.solver.specs.Model.{model}
 use Rattle.solver.proofs.Readings.{never_refused, row_read}
-use Rattle.depth_text.specs.Lines.{rows_text}
 use Rattle.report.proofs.Rows.{rows_more, same_line}
 use Rattle.report.proofs.told.add_rows.Goals as goal
 use Rattle.report.proofs.told.add_rows.Goals.{in-Ok+in_ok-add_row-in-Ok, in-Err}
