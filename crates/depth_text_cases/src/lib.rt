@@ -24,7 +24,7 @@ mod tests {
             },
             b"~",
         )?;
-        assert_eq!(rt; out.as_slice(), b"! -5120000000 256 ~\n");
+        assert_eq!(rt; out.as_slice(), b"! -5120000000 256 ~\n".as_slice());
         Ok(())
     }
 
@@ -38,7 +38,7 @@ mod tests {
         add_refused(&mut out, heap, 255, 65_536)?;
         assert_eq!(rt;
             out.as_slice(),
-            b"contradiction base top\ncontradiction\nrefused 5 0\nrefused 255 65536\n"
+            b"contradiction base top\ncontradiction\nrefused 5 0\nrefused 255 65536\n".as_slice()
         );
         Ok(())
     }

@@ -3,9 +3,9 @@
 
 #![tactic(auto)]
 
-use anyhow::anyhow;
 use report::answer;
 use std::io::{Read, Write};
+use std::process::ExitCode;
 
 /// One byte more than the longest text.
 const LONGEST: u64 = 65_537;
@@ -20,10 +20,10 @@ fn run(rt: &HostRuntime) -> anyhow::Result<bool> {
     Ok(report.solved)
 }
 
-fn main(rt: HostRuntime) -> anyhow::Result<()> {
-    if run(&rt)? {
-        Ok(())
+fn main(rt: HostRuntime) -> anyhow::Result<ExitCode> {
+    Ok(if run(&rt)? {
+        ExitCode::SUCCESS
     } else {
-        Err(anyhow!("no depths"))
-    }
+        ExitCode::FAILURE
+    })
 }

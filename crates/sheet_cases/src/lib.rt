@@ -233,8 +233,8 @@ mod tests {
         assert_eq!(rt; made_in(text, &mut state, &mut list), (0, 0));
         assert_eq!(rt; state.total_depth, 3_000_000);
         assert_eq!(rt; state.names.len(), 3);
-        assert_eq!(rt; state.names.name(2), b"base");
-        assert_eq!(rt; state.names.name(3), b"");
+        assert_eq!(rt; state.names.name(2), b"base".as_slice());
+        assert_eq!(rt; state.names.name(3), b"".as_slice());
         Ok(())
     }
 }
