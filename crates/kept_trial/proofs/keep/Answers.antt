@@ -4,4 +4,4 @@ use Rattle.kept_trial.proofs.keep.Goals as goal
 pub keep_trial-requires : goal.keep_trial-requires
 keep_trial-requires g c =
     let done = c.in-Ok.ensures in
-    record { suits = done.suits; holds = trial_holds g.M.Measure _ _ _ _ _ _ _ _ _ _ c.in-Ok.token done.answered done.numbered }
+    record { suits = done.suits; trial = done.trial c.requires.trial; holds = trial_holds g.M.Measure _ _ _ _ _ _ _ _ _ _ c.in-Ok.token done.answered done.numbered }
