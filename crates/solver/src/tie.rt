@@ -82,8 +82,8 @@ impl<S: TieStore, M: Measure> Solver<S, M> {
                         let _ = self.store.clear(from, to);
                         Ok(self.adopt(next))
                     }
-                    // no set of depths is lost by an untying, so that this cannot be
-                    Err(_work) => Err(Refusal::PairEmpty),
+                    // whatever fits the ties fits them without this one
+                    Err(_work) => unreachable(),
                 }
             }
         }

@@ -30,9 +30,9 @@ returns-in-Ok g c =
     let still = adopted_state μ _ c.in-Ok.next c.adopt.result c.adopt.new.self c.adopt.ensures ∙ open-now in
     record { suits = done.0; trial = λ h. open_can_roll_back st μ c.adopt.new.self still; answered = done.1; logged = goes_on μ (model st s) _ k [] _ _ done.1 }
 
-pub returns-in-Err-next_table : goal.returns-in-Err-next_table
-returns-in-Err-next_table g c =
+pub unreachable-requires : goal.unreachable-requires
+unreachable-requires g c =
     let st = g.S.TieStore in
     let s = c.args.self.now in
     let open-now : c.args.self.now.state ≡ state.Open = search rules in
-    absurd (untie_fits st g.M.Measure s c.requires.suits open-now c.args.from c.args.to (up c.in-Err-next_table._work.rows) c.in-Err-next_table.ensures)
+    untie_fits st g.M.Measure s c.requires.suits open-now c.args.from c.args.to (up c.in-Err-next_table._work.rows) c.in-Err-next_table.ensures
