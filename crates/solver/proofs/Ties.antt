@@ -6,8 +6,7 @@ use Rattle.measure.specs.declared.Measure.{Ghosts as MeasureGhosts}
 use Rattle.measure.specs.Group.{OrderedGroup}
 use Rattle.store.specs.declared.Refusal.{Refusal as StoreRefusal}
 use Rattle.store.specs.declared.TieStore.{Ghosts as StoreGhosts}
-use Rattle.store.specs.Meaning.{clear_after, put_after, set_tie, StoreMeaning}
-use Rattle.store.proofs.Calls.{clear_accepted, put_accepted}
+use Rattle.store.specs.Meaning.{set_tie, StoreMeaning}
 use Rattle.graph.specs.Graph.{Cycle, Fits, Weight}
 use Rattle.graph.specs.Tree.{way}
 use Rattle.graph.proofs.Raises.{raised_fits}
@@ -16,7 +15,7 @@ use Rattle.table.specs.Climb.{deep, FirstClimb}
 use Rattle.table.proofs.Ways.{length_down}
 use Rattle.update.specs.Lowering.{NegativeCycle}
 use Rattle.update.proofs.Cycles.{cycle_first}
-use Rattle.law.specs.Calls.{Answered, EndsWith, over_front}
+use Rattle.law.specs.Calls.{answer_of, Answered, buffer_after, changes_after, EndsWith, Kind, kind, Model, moved, over_front, reparented, Table}
 use Rattle.law.specs.Refusals.{first, first_refusal, is_new, on_trial, when}
 use Rattle.law.specs.Standing.{bounds_of}
 use Rattle.law.specs.declared.call.Answer.TheVariants as answer
@@ -31,7 +30,11 @@ use Rattle.solver.specs.Changing.{pair_refusal, tie_refusal, untie_refusal}
 use Rattle.solver.specs.Model.{model}
 use Rattle.solver.specs.Suits.{Suits}
 use Rattle.solver.specs.Writing.{changed_meaning, set_answer}
-use Rattle.solver.proofs.Changes.{clear_changes, put_changes}
+use Rattle.solver.specs.Settling.{Settled}
+use Rattle.law.specs.Calls.Kind.{change}
+use Rattle.law.specs.declared.call.Call.{Call}
+use Rattle.law.proofs.Answers.{accepted}
+use Rattle.law.specs.Standing.{put, took}
 use Rattle.solver.proofs.Openings.{passed}
 
 pub not-false : (b : Bool) → not b ≡ false → b ≡ true
@@ -94,22 +97,39 @@ module _ {M : Type 0} (μ : MeasureGhosts M) (m : StoreMeaning) (a b : ℕ) (w :
   place_by false false u e = refl
 
   -- the store takes the tie
-  pub tie_put : put_after m a b w ≡ changed_meaning m a b (Some w)
-  tie_put =
-      put_accepted m a b w
-      (store_passes m a b (when (not (μ.admits w)) BadAmount ∷ when (ltb room m.count) ShortBuffer ∷ when (not (is_some (m.tie a b)) && eqb m.free 0) StoreFull ∷ []) none _ _ _ _
-      ∙ place_by (is_some (m.tie a b)) (eqb m.free 0) _ has_place)
-      ∙ put_changes m a b w
+  pub tie_taken : set_answer m a b (Some w) ≡ Ok tt
+  tie_taken =
+      store_passes m a b (when (not (μ.admits w)) BadAmount ∷ when (ltb room m.count) ShortBuffer ∷ when (not (is_some (m.tie a b)) && eqb m.free 0) StoreFull ∷ []) none _ _ _ _
+      ∙ place_by (is_some (m.tie a b)) (eqb m.free 0) _ has_place
 
 module _ (m : StoreMeaning) (a b : ℕ) (none : untie_refusal m a b ≡ None) where
   tied : is_some (m.tie a b) ≡ true
   tied = not-false (is_some (m.tie a b)) (passed (not (is_some (m.tie a b))) PairEmpty [] (rest_none m a b (when (not (is_some (m.tie a b))) PairEmpty ∷ []) none)).0
 
-  -- the store clears the tie
-  pub tie_cleared : clear_after m a b ≡ changed_meaning m a b None
-  tie_cleared =
-      clear_accepted m a b (store_passes m a b (when (not (is_some (m.tie a b))) PairEmpty ∷ []) none _ _ _ _ ∙ cond-true (is_some (m.tie a b)) _ _ tied)
-      ∙ clear_changes m a b tied
+  -- the store clears the tie, and takes another amount in its place
+  pub set_taken : (o : Option Amount) → set_answer m a b o ≡ Ok tt
+  set_taken None = store_passes m a b (when (not (is_some (m.tie a b))) PairEmpty ∷ []) none _ _ _ _ ∙ cond-true (is_some (m.tie a b)) _ _ tied
+  set_taken (Some w) = store_passes m a b (when (not (is_some (m.tie a b))) PairEmpty ∷ []) none _ _ _ _ ∙ cond-true (is_some (m.tie a b)) _ _ tied
+
+  pub pair_start : a < m.count
+  pair_start = start_known m a b (when (not (is_some (m.tie a b))) PairEmpty ∷ []) none
+
+  pub pair_end : b < m.count
+  pair_end = end_known m a b (when (not (is_some (m.tie a b))) PairEmpty ∷ []) none
+
+-- a change that has settled is what an accepted call asks for
+pub settled_answered : {M : Type 0} (μ : MeasureGhosts M) (m m' : Model) (a b : ℕ) (o : Option Amount) (r : ℕ × ℕ) → Settled μ m a b o r m'
+    → (c : Call) (before : List ℕ) → first_refusal μ m.standing c ≡ None → kind c ≡ change → took c m.standing ≡ put m.standing a b o state.Open
+    → answer_of μ c m m' ≡ answer.Changed (moved μ m m') (reparented μ m m') → buffer_after c m before ≡ before
+    → Answered μ m c before (answer.Changed r.0 r.1) before m'
+settled_answered μ m m' a b o r h c before none is-change takes answers keeps-buffer = accepted μ m c before _ before m' none
+    (record {
+      standing = h.standing ∙ sym takes;
+      table = subst (λ (k : Kind). Table μ k m m') (sym is-change) h.table;
+      changes = h.changes ∙ ap (λ (k : Kind). changes_after k m.changes) (sym is-change);
+      answered = ap (λ (p : ℕ × ℕ). answer.Changed p.0 p.1) h.counted ∙ sym answers;
+      buffer = sym keeps-buffer;
+    })
 
 ends_so : (g : OrderedGroup) (n : ℕ) (w : Weight g) (q : ℕ → ℕ) (a b k : ℕ) (s : g.carrier) → Cycle g n w (b ∷ way q k a) s → EndsWith a (b ∷ way q k a)
 ends_so g n w q a b zero s cycle = absurd cycle
@@ -156,22 +176,6 @@ module _ {S M : Type 0} (st : StoreGhosts S) (μ : MeasureGhosts M) (s : Solver 
       let fits = subst (λ (i : ℕ). Fits μ.group i (bounds_of μ s.total t) (λ z. μ.value (deep s.table.rows z))) old.same old.solved.fits in
       negative_cycle_refutes μ.group n (bounds_of μ s.total (set_tie t a b None)) (b ∷ way q c.up a) c.sum c.cycle c.negative (λ z. μ.value (deep s.table.rows z))
       (raised_fits μ.group n (bounds_of μ s.total t) (bounds_of μ s.total (set_tie t a b None)) (λ z. μ.value (deep s.table.rows z)) (cleared_raised μ s.total t a b n) fits)
-
--- what a pair's checks say of a store that has it, and of one in which it is tied
-module _ (m : StoreMeaning) (a b : ℕ) (none : untie_refusal m a b ≡ None) where
-  tied_pair : is_some (m.tie a b) ≡ true
-  tied_pair = not-false (is_some (m.tie a b)) (passed (not (is_some (m.tie a b))) PairEmpty [] (rest_none m a b (when (not (is_some (m.tie a b))) PairEmpty ∷ []) none)).0
-
-  -- the store clears the tie, and takes another amount in its place
-  pub set_taken : (o : Option Amount) → set_answer m a b o ≡ Ok tt
-  set_taken None = store_passes m a b (when (not (is_some (m.tie a b))) PairEmpty ∷ []) none _ _ _ _ ∙ cond-true (is_some (m.tie a b)) _ _ tied_pair
-  set_taken (Some w) = store_passes m a b (when (not (is_some (m.tie a b))) PairEmpty ∷ []) none _ _ _ _ ∙ cond-true (is_some (m.tie a b)) _ _ tied_pair
-
-  pub pair_start : a < m.count
-  pair_start = start_known m a b (when (not (is_some (m.tie a b))) PairEmpty ∷ []) none
-
-  pub pair_end : b < m.count
-  pair_end = end_known m a b (when (not (is_some (m.tie a b))) PairEmpty ∷ []) none
 
 -- a pair that was tied can be cleared
 module _ {M : Type 0} (μ : MeasureGhosts M) (m : StoreMeaning) (a b : ℕ) (w : Amount) (room : ℕ) (none : tie_refusal μ m a b w room ≡ None) where

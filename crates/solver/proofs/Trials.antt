@@ -10,26 +10,23 @@ use Rattle.graph.specs.Tree.{way}
 use Rattle.graph.proofs.Walks.{negative_cycle_refutes}
 use Rattle.table.specs.Climb.{deep}
 use Rattle.update.specs.Lowering.{NegativeCycle}
-use Rattle.law.specs.Calls.{Accepted, answer_of, Answered, buffer_after, changes_after, Kind, kind, Model, moved, Outcome, reparented, Table}
-use Rattle.law.specs.Calls.Kind.{change}
-use Rattle.law.specs.declared.call.Call.{Call}
+use Rattle.law.specs.Calls.{Accepted, Answered, Model, Outcome}
 use Rattle.law.specs.Refusals.{first_refusal, is_new, on_trial}
-use Rattle.law.specs.Standing.{bounds_of, put, rolled_back, Standing, Ties, took, turned}
+use Rattle.law.specs.Standing.{bounds_of, put, rolled_back, Standing, Ties, turned}
 use Rattle.law.specs.declared.call.Answer.TheVariants as answer
 use Rattle.law.specs.declared.call.Call.TheVariants as call
 use Rattle.law.specs.declared.call.Refusal.{Refusal}
 use Rattle.law.specs.declared.call.Refusal.TheVariants.{NotOpen, TrialOut, WrongToken}
 use Rattle.law.specs.declared.call.State.TheVariants as state
-use Rattle.law.proofs.Answers.{accepted, skips}
+use Rattle.law.proofs.Answers.{skips}
 use Rattle.solver.specs.declared.solver.Solver.{Solver}
-use Rattle.solver.specs.Changing.{Adopted, tie_refusal, untie_refusal}
-use Rattle.table.specs.declared.table.DepthTable.{DepthTable}
+use Rattle.solver.specs.Changing.{tie_refusal, untie_refusal}
 use Rattle.solver.specs.Settling.{Settled}
 use Rattle.solver.specs.Model.{model}
 use Rattle.solver.specs.Suits.{Suits}
 use Rattle.solver.specs.Trials.{CanRollBack, StateSuits, TrialSuits}
 use Rattle.solver.proofs.Openings.{passed}
-use Rattle.solver.proofs.Ties.{tie_stands}
+use Rattle.solver.proofs.Ties.{settled_answered, tie_stands}
 
 -- ---- the answer of a trial, by that of the tie
 
@@ -130,28 +127,10 @@ module _ {S M : Type 0} (st : StoreGhosts S) (μ : MeasureGhosts M) (s s' : Solv
 
 -- ---- no trial is out of an open solver
 
-pub adopted_state : {S M : Type 0} (μ : MeasureGhosts M) (s : Solver S M) (next : Option DepthTable) (r : ℕ × ℕ) (s' : Solver S M) → Adopted μ s next r s' → s'.state ≡ s.state
-adopted_state {S = S} {M = M} μ s None r s' (is, zero) = ap (λ (x : Solver S M). x.state) is
-adopted_state {S = S} {M = M} μ s (Some t) r s' (is, counted) = ap (λ (x : Solver S M). x.state) is
-
 pub open_can_roll_back : {S M : Type 0} (st : StoreGhosts S) (μ : MeasureGhosts M) (s : Solver S M) → s.state ≡ state.Open → CanRollBack st μ s
 open_can_roll_back st μ s e = subst (StateSuits μ s.total (st.meaning s.store)) (sym e) tt
 
 -- ---- rolling back
-
--- a change that has settled is what an accepted call asks for
-settled_answered : {M : Type 0} (μ : MeasureGhosts M) (m m' : Model) (a b : ℕ) (o : Option Amount) (r : ℕ × ℕ) → Settled μ m a b o r m'
-    → (c : Call) (before : List ℕ) → first_refusal μ m.standing c ≡ None → kind c ≡ change → took c m.standing ≡ put m.standing a b o state.Open
-    → answer_of μ c m m' ≡ answer.Changed (moved μ m m') (reparented μ m m') → buffer_after c m before ≡ before
-    → Answered μ m c before (answer.Changed r.0 r.1) before m'
-settled_answered μ m m' a b o r h c before none is-change takes answers keeps-buffer = accepted μ m c before _ before m' none
-    (record {
-      standing = h.standing ∙ sym takes;
-      table = subst (λ (k : Kind). Table μ k m m') (sym is-change) h.table;
-      changes = h.changes ∙ ap (λ (k : Kind). changes_after k m.changes) (sym is-change);
-      answered = ap (λ (p : ℕ × ℕ). answer.Changed p.0 p.1) h.counted ∙ sym answers;
-      buffer = sym keeps-buffer;
-    })
 
 module _ {S M : Type 0} (st : StoreGhosts S) (μ : MeasureGhosts M) (s : Solver S M) (can : CanRollBack st μ s) (a b : ℕ) (was : Option Amount) (out : s.state ≡ state.OnTrial a b was) where
   pub trial_kept : TrialSuits μ s.total (st.meaning s.store) a b was

@@ -1,8 +1,8 @@
 //! What is checked before anything is solved.
 
-ghost use Rattle.std.specs.Prelude.{◌≡◌};
+ghost use Rattle.std.specs.Prelude.{◌≡◌, []};
 ghost use Rattle.law.specs.Refusals.{bad_tie, first_bad_tie, lowest};
-ghost use Rattle.solver.specs.Changing.{tie_refusal, untie_refusal};
+ghost use Rattle.solver.specs.Changing.{pair_refusal, tie_refusal, untie_refusal};
 ghost use Rattle.solver.specs.Opening.{as_result, opening_refusal};
 
 use crate::solver::Solver;
@@ -71,16 +71,10 @@ impl<S: TieStore, M: Measure> Solver<S, M> {
         }
     }
 
-    // Why a tie may not be put with a buffer of this length, before anything is solved.
-    pub(crate) fn check_tie(
-        &self,
-        from: u16,
-        to: u16,
-        amount: Amount,
-        room: usize,
-    ) -> Result<(), Refusal>
+    // Why the pair may be neither tied nor cleared.
+    fn check_pair(&self, from: u16, to: u16) -> Result<(), Refusal>
         requires sound { S.TieStore.sound self.now.store }
-        ensures { result ≡ as_result (tie_refusal M.Measure (S.TieStore.meaning self.now.store) from to amount room) }
+        ensures { result ≡ as_result (pair_refusal (S.TieStore.meaning self.now.store) from to []) }
     {
         let n = self.store.marker_count();
         if from >= n || to >= n {
@@ -92,9 +86,25 @@ impl<S: TieStore, M: Measure> Solver<S, M> {
         if self.store.is_closed(from) || self.store.is_closed(to) {
             return Err(Refusal::ClosedMarker);
         }
+        Ok(())
+    }
+
+    // Why a tie may not be put with a buffer of this length, before anything is solved.
+    pub(crate) fn check_tie(
+        &self,
+        from: u16,
+        to: u16,
+        amount: Amount,
+        room: usize,
+    ) -> Result<(), Refusal>
+        requires sound { S.TieStore.sound self.now.store }
+        ensures { result ≡ as_result (tie_refusal M.Measure (S.TieStore.meaning self.now.store) from to amount room) }
+    {
+        self.check_pair(from, to)?;
         if !self.measure.admitted(amount) {
             return Err(Refusal::BadAmount);
         }
+        let n = self.store.marker_count();
         if room < n as usize {
             return Err(Refusal::ShortBuffer);
         }
@@ -109,16 +119,7 @@ impl<S: TieStore, M: Measure> Solver<S, M> {
         requires sound { S.TieStore.sound self.now.store }
         ensures { result ≡ as_result (untie_refusal (S.TieStore.meaning self.now.store) from to) }
     {
-        let n = self.store.marker_count();
-        if from >= n || to >= n {
-            return Err(Refusal::UnknownMarker);
-        }
-        if from == to {
-            return Err(Refusal::SameMarker);
-        }
-        if self.store.is_closed(from) || self.store.is_closed(to) {
-            return Err(Refusal::ClosedMarker);
-        }
+        self.check_pair(from, to)?;
         if self.store.amount(from, to).is_none() {
             return Err(Refusal::PairEmpty);
         }

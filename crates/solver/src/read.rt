@@ -1,8 +1,7 @@
-//! What a solver answers without a change.
+//! A marker's row, and the count of changes.
 
-ghost use Rattle.std.specs.Prelude.{◌≡◌, [], length};
+ghost use Rattle.std.specs.Prelude.{◌≡◌, []};
 ghost use Rattle.law.specs.Calls.{Answered};
-ghost use Rattle.law.specs.Results.{read_path};
 ghost use Rattle.law.specs.Telling.{Logged};
 ghost use Rattle.law.specs.declared.call.Call.TheVariants as call;
 ghost use Rattle.solver.specs.Model.{model, read_row};
@@ -28,26 +27,6 @@ impl<S: TieStore, M: Measure> Solver<S, M> {
                     return Err(Refusal::UnknownMarker);
                 }
                 Ok(self.table.row(marker))
-            }
-        }
-    }
-
-    /// Writes the path of a marker, datum first, to the front of `out`: its length.
-    pub fn path(&self, marker: u16, out: &mut [u16]) -> Result<u16, Refusal>
-        requires suits { Suits S.TieStore M.Measure self.now }
-        ensures answered { Answered M.Measure (model S.TieStore self.now) (call.Path marker (length out.old)) out.old (read_path result) out.new (model S.TieStore self.now) }
-        ensures logged { Logged M.Measure (model S.TieStore self.now) (call.Path marker (length out.old)) (read_path result) out.new (model S.TieStore self.now) }
-    {
-        match self.state {
-            State::New => Err(Refusal::NotOpen),
-            State::Open | State::OnTrial { .. } => {
-                if marker >= self.table.n() {
-                    return Err(Refusal::UnknownMarker);
-                }
-                if out.len() < self.table.n() as usize {
-                    return Err(Refusal::ShortBuffer);
-                }
-                Ok(self.table.path(marker, out))
             }
         }
     }

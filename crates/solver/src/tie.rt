@@ -10,11 +10,9 @@ ghost use Rattle.solver.specs.Trials.{CanRollBack};
 ghost use Rattle.solver.specs.Suits.{Suits};
 
 use crate::solver::Solver;
-use bounds::scope::Change;
 use law::{Refusal, State};
 use measure::{Amount, Measure};
 use store::TieStore;
-use table::trail;
 
 impl<S: TieStore, M: Measure> Solver<S, M> {
     /// Puts the tie from one marker to another, or replaces its amount: how many markers then have another depth, and how many
@@ -35,25 +33,7 @@ impl<S: TieStore, M: Measure> Solver<S, M> {
         match self.state {
             State::New => Err(Refusal::NotOpen),
             State::OnTrial { .. } => Err(Refusal::TrialOut),
-            State::Open => {
-                if let Err(why) = self.check_tie(from, to, amount, cycle.len()) {
-                    return Err(why);
-                }
-                let step = Change {
-                    start: from,
-                    end: to,
-                    amount: Some(amount),
-                };
-                match self.next_table(step) {
-                    Ok(next) => {
-                        let _ = self.store.put(from, to, amount);
-                        Ok(self.adopt(next))
-                    }
-                    Err(work) => Err(Refusal::Contradiction {
-                        length: trail(&work.rows, from, to, cycle),
-                    }),
-                }
-            }
+            State::Open => self.put_tie(from, to, amount, cycle),
         }
     }
 
@@ -68,24 +48,7 @@ impl<S: TieStore, M: Measure> Solver<S, M> {
         match self.state {
             State::New => Err(Refusal::NotOpen),
             State::OnTrial { .. } => Err(Refusal::TrialOut),
-            State::Open => {
-                if let Err(why) = self.check_untie(from, to) {
-                    return Err(why);
-                }
-                let step = Change {
-                    start: from,
-                    end: to,
-                    amount: None,
-                };
-                match self.next_table(step) {
-                    Ok(next) => {
-                        let _ = self.store.clear(from, to);
-                        Ok(self.adopt(next))
-                    }
-                    // whatever fits the ties fits them without this one
-                    Err(_work) => unreachable(),
-                }
-            }
+            State::Open => self.clear_tie(from, to),
         }
     }
 }

@@ -34,7 +34,7 @@ impl<S: TieStore, M: Measure> Solver<S, M> {
         ensures logged { Logged M.Measure (model S.TieStore self.old) (call.Trial from to amount (length cycle.old)) (changed result) cycle.new (model S.TieStore self.new) }
     {
         let before = self.store.amount(from, to);
-        match self.tie(from, to, amount, cycle) {
+        match self.put_tie(from, to, amount, cycle) {
             Ok(counts) => {
                 self.state = State::OnTrial { from, to, before };
                 Ok(counts)
