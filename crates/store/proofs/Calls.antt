@@ -1,5 +1,6 @@
 -- What a call answers and leaves, by the meaning of any store. Assumes nothing.
 use Rattle.std.proofs.Common.{◌≡◌, ℕ, ◌-◌, ◌<◌, Bool, true, false, cond, ◌&&◌, ◌||◌, eqb, ltb, ◌≢◌, is_some, Some, None, Ok, Err, Option, Result, sym, ap, ◌∙◌, inl, inr, arith}
+use Rattle.std.specs.Option.{ok_or}
 use Rattle.std.proofs.lemmas.Bool.{cases_Bool, cond-true, cond-false, and_from, and_parts, or_from, or_parts, lt-ltb, ltb-true, eqb-false, ne_eqb}
 use Rattle.measure.specs.declared.Amount.{Amount}
 use Rattle.store.specs.declared.Refusal.{Refusal}
@@ -95,3 +96,8 @@ module _ (m : StoreMeaning) (a b : ℕ) where
 
   pub put_free : (w : Amount) (t : Option Amount) → m.tie a b ≡ t → (put_done m a b w).free ≡ cond (is_some t) m.free (m.free - 1)
   put_free w t e = ap (λ (t : Option Amount). cond (is_some t) m.free (m.free - 1)) e
+
+-- a value that was there
+pub was_some : {T E : Type 0} (o : Option T) (e : E) (x : T) → ok_or o e ≡ Ok x → o ≡ Some x
+was_some None e x h = absurd (let z : ◌≡◌ {A = ℕ} 0 1 = cc in omega arith)
+was_some (Some y) e x h = cc

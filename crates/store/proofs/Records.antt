@@ -1,10 +1,14 @@
 -- The first records of a table, each of another pair: what a write leaves. Assumes nothing.
-use Rattle.std.proofs.Common.{◌≡◌, ℕ, zero, suc, ◌+◌, ◌<◌, true, ◌≢◌, ◌⊎◌, Some, None, Option, sym, refl, ap, ◌∙◌, inl, inr, arith}
-use Rattle.std.proofs.lemmas.Bool.{eqb-true, eq-eqb, and_parts, and_from, cases_Bool, cond-true, cond-false, cases_eq, both_ways}
+use Rattle.std.proofs.Common.{◌≡◌, ℕ, zero, suc, ◌+◌, ◌<◌, true, ◌≢◌, ◌⊎◌, ltb, ◌≤◌, List, length, take, get_or, position, Some, None, Option, sym, refl, ap, ◌∙◌, inl, inr, arith}
+use Rattle.std.proofs.lemmas.Bool.{eqb-true, eq-eqb, and_parts, and_from, cases_Bool, cond-true, cond-false, cases_eq, both_ways, ltb-false}
+use Rattle.std.specs.List.{position_or_len}
+use Rattle.std.proofs.lemmas.List.{get_or-take, length-take-le}
+use Rattle.std.proofs.lemmas.List.Quantifiers.{position-Some}
+use Rattle.std.proofs.lemmas.List.Sums.{fails_before_first}
 use Rattle.measure.specs.declared.Amount.{Amount}
 use Rattle.store.specs.declared.TieRecord.{TieRecord}
 use Rattle.store.specs.Meaning.{same_pair, set_tie}
-use Rattle.store.specs.List.{Pair, is_pair, amount_in, Ties}
+use Rattle.store.specs.List.{no_record, Pair, is_pair, at, amount_in, ListSound, Placed, Ties}
 use Rattle.store.specs.Laws.{amount_none}
 
 pub pair_true : (a b : ℕ) (t : TieRecord) → is_pair a b t ≡ true → Pair a b t
@@ -186,3 +190,32 @@ module _ (f g : ℕ → TieRecord) (n last i a b : ℕ) (ok : Ties n (last + 1) 
         | inl h ↦ absurd (ne (sym p.0 ∙ ap (λ m. (f m).start) (e ∙ sym h) ∙ is.0) (sym p.1 ∙ ap (λ m. (f m).end) (e ∙ sym h) ∙ is.1))
         | inr h ↦ omega arith
       ]
+
+-- ---- where a pair is
+module _ (count : ℕ) (rs : List TieRecord) (a b : ℕ) (fits : count ≤ length rs) where
+  test_at : (k : ℕ) → k < count → is_pair a b (get_or (take count rs) k no_record) ≡ is_pair a b (at rs k)
+  test_at k l = ap (is_pair a b) (get_or-take count rs k no_record l)
+
+  -- none of the first records passes
+  pub passed_over : None ≡ position (is_pair a b) (take count rs) → (k : ℕ) → k < count → Pair a b (at rs k) → ⊥
+  passed_over e k l p = elim (cases_Bool (ltb (position_or_len (is_pair a b) (take count rs)) (length (take count rs)))) [
+    | inl t ↦ absurd (let h = e ∙ cond-true _ (Some (position_or_len (is_pair a b) (take count rs))) None t in cc)
+    | inr f ↦
+        let n = length-take-le count rs fits in
+        let beyond = ltb-false _ _ f in
+        both_ways _ (fails_before_first (is_pair a b) (take count rs) k no_record (omega arith)) (test_at k l ∙ pair_test a b (at rs k) p)
+  ]
+
+  pub found_at : (r : ℕ) → Some r ≡ position (is_pair a b) (take count rs) → (r < count) × Pair a b (at rs r)
+  found_at r e =
+      let n = length-take-le count rs fits in
+      let h = position-Some (is_pair a b) (take count rs) r no_record (sym e) in
+      let l : r < count = omega (arith, h.0) in
+      (l, pair_true a b (at rs r) (sym (test_at r l) ∙ h.1))
+
+pub placed : (n count : ℕ) (rs : List TieRecord) (a b : ℕ) → ListSound n count rs → (r : Option ℕ) → r ≡ position (is_pair a b) (take count rs) → Placed rs count a b r
+placed n count rs a b s (Some r) e =
+    let h = found_at count rs a b s.within r e in
+    record { within = h.0; pair = h.1; amount = amount_here (at rs) count r a b s.ties.distinct h.0 h.1 }
+placed n count rs a b s None e =
+    let h = passed_over count rs a b s.within e in record { nowhere = h; amount = amount_none (at rs) count a b h }

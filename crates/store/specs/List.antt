@@ -47,17 +47,20 @@ pub record ListSound (n count : ℕ) (rs : List TieRecord) : Type 0 where
   pub small : length rs ≤ 4096
   pub ties : Ties n count (at rs)
 
--- r is the place of the pair a, b among the first count records, or count where it is not there
-pub record Found (rs : List TieRecord) (count a b r : ℕ) : Type 0 where
-  pub within : r ≤ count
-  pub before : (k : ℕ) → k < r → Pair a b (at rs k) → ⊥
-  pub here : r < count → Pair a b (at rs r)
+-- r is a place of the pair a, b among the first count records
+pub record Here (rs : List TieRecord) (count a b r : ℕ) : Type 0 where
+  pub within : r < count
+  pub pair : Pair a b (at rs r)
+  pub amount : amount_in (at rs) count a b ≡ Some (at rs r).amount
 
--- the same of a sound list, with what it says of the pair's amount
-pub record Placed (rs : List TieRecord) (count a b r : ℕ) : Type 0 where
-  pub found : Found rs count a b r
-  pub here : r < count → amount_in (at rs) count a b ≡ Some (at rs r).amount
-  pub absent : count ≤ r → amount_in (at rs) count a b ≡ None
+-- the pair is not among them
+pub record Absent (rs : List TieRecord) (count a b : ℕ) : Type 0 where
+  pub nowhere : (k : ℕ) → k < count → Pair a b (at rs k) → ⊥
+  pub amount : amount_in (at rs) count a b ≡ None
+
+abbrev pub Placed : List TieRecord → ℕ → ℕ → ℕ → Option ℕ → Type 0
+Placed rs count a b (Some r) = Here rs count a b r
+Placed rs count a b None = Absent rs count a b
 
 -- whether a list of n markers may lie in so many records
 abbrev pub size_answer : ℕ → ℕ → Result Unit Refusal

@@ -11,22 +11,22 @@ pub use list::TieList;
 use measure::Amount;
 
 /// A tie: marker `end` lies at most `amount` deeper than marker `start`.
-#[derive(Clone, Copy, PartialEq, Eq, Debug)]
+#[derive(Clone, Copy, PartialEq, Eq, Default, Debug)]
 pub struct TieRecord {
     pub start: u16,
     pub end: u16,
     pub amount: Amount,
 }
 
-/// Why a store says no.
+/// Why a store says no, with the number by which users know it.
 #[derive(Clone, Copy, PartialEq, Eq, Debug)]
 pub enum Refusal {
-    UnknownMarker,
-    SameMarker,
-    ClosedMarker,
-    PairEmpty,
-    StoreFull,
-    BadSize,
+    UnknownMarker = 4,
+    SameMarker = 5,
+    ClosedMarker = 6,
+    PairEmpty = 9,
+    StoreFull = 10,
+    BadSize = 14,
 }
 
 impl Refusal {
@@ -34,14 +34,7 @@ impl Refusal {
     pub fn code(&self) -> u8
         ensures { result ≡ code_of self.now }
     {
-        match self {
-            Refusal::UnknownMarker => 4,
-            Refusal::SameMarker => 5,
-            Refusal::ClosedMarker => 6,
-            Refusal::PairEmpty => 9,
-            Refusal::StoreFull => 10,
-            Refusal::BadSize => 14,
-        }
+        *self as u8
     }
 }
 
@@ -50,32 +43,24 @@ pub trait TieStore {
     // what the store holds
     ghost meaning: { Self → StoreMeaning };
 
-    // the store's own tables fit its ties
-    ghost sound: { Self → Type 0 };
-
-    ghost lawful: { (s : Self) → sound s → Lawful (meaning s) };
+    ghost lawful: { (s : Self) → Lawful (meaning s) };
 
     fn marker_count(&self) -> u16
-        requires { sound self.now }
         ensures { result ≡ (meaning self.now).count };
 
     fn is_closed(&self, marker: u16) -> bool
-        requires { sound self.now }
         ensures { result ≡ (meaning self.now).closed marker };
 
     /// The amount of the tie from `a` to `b`, if there is one.
     fn amount(&self, a: u16, b: u16) -> Option<Amount>
-        requires { sound self.now }
         ensures { result ≡ (meaning self.now).tie a b };
 
     /// The number of further ties that the store can take.
     fn free(&self) -> usize
-        requires { sound self.now }
         ensures { result ≡ (meaning self.now).free };
 
     /// Why the tie from `a` to `b` may be neither put nor cleared.
     fn check_pair(&self, a: u16, b: u16) -> Result<(), Refusal>
-        requires { sound self.now }
         ensures { result ≡ pair_answer (meaning self.now) a b (Ok tt) }
     {
         let n = self.marker_count();
@@ -93,15 +78,11 @@ pub trait TieStore {
 
     /// Sets the amount of the tie from `a` to `b`.
     fn put(&mut self, a: u16, b: u16, amount: Amount) -> Result<(), Refusal>
-        requires { sound self.old }
         ensures answer { result ≡ put_answer (meaning self.old) a b }
-        ensures after { meaning self.new ≡ put_after (meaning self.old) a b amount }
-        ensures sound { sound self.new };
+        ensures after { meaning self.new ≡ put_after (meaning self.old) a b amount };
 
     /// Takes the tie from `a` to `b` away.
     fn clear(&mut self, a: u16, b: u16) -> Result<(), Refusal>
-        requires { sound self.old }
         ensures answer { result ≡ clear_answer (meaning self.old) a b }
-        ensures after { meaning self.new ≡ clear_after (meaning self.old) a b }
-        ensures sound { sound self.new };
+        ensures after { meaning self.new ≡ clear_after (meaning self.old) a b };
 }
