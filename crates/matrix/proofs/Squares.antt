@@ -5,8 +5,8 @@ use Rattle.std.proofs.lemmas.Bool.{cond-true, cond-false, and_from, and_parts, a
 use Rattle.measure.specs.declared.Amount.{Amount}
 use Rattle.store.specs.declared.Refusal.{Refusal}
 use Rattle.store.specs.declared.Refusal.TheVariants.{BadSize}
-use Rattle.store.specs.Meaning.{StoreMeaning, same_pair, set_tie, put_answer, put_done, clear_done, empty_meaning}
-use Rattle.store.proofs.Calls.{same_meaning, Writable, put_over, put_new, put_free}
+use Rattle.store.specs.Meaning.{StoreMeaning, same_pair, set_tie, put_done, clear_done, empty_meaning}
+use Rattle.store.proofs.Calls.{same_meaning, Writable, put_free}
 use Rattle.store.proofs.Records.{by_pair}
 use Rattle.matrix.specs.Matrix.{cell_at, Emptied, cell_tie, tie_count, matrix_meaning, MatrixSound, size_answer}
 use Rattle.matrix.proofs.Counts.{count_same, count_more, count_most, count_none}
@@ -73,9 +73,6 @@ module _ (n ties : ℕ) (cells : List (Option Amount)) (a b i : ℕ) (ok : Matri
 
   -- ---- in place of a tie
   module _ (v w : Amount) (there : cell_at cells i ≡ Some v) where
-    pub over_answer : put_answer m a b ≡ Ok tt
-    over_answer = put_over m a b may v (shown (Some v) there)
-
     same_count : tie_count n (cell_tie n cells) ≡ tie_count n (cell_tie n (set cells i (Some w)))
     same_count = count_same n _ _ (λ x y. sym (ap is_some (tie_set n cells a b i ok.size may at_i (Some w) x y) ∙ still x y))
       where
@@ -102,9 +99,6 @@ module _ (n ties : ℕ) (cells : List (Option Amount)) (a b i : ℕ) (ok : Matri
 
     pub new_sound : MatrixSound n (ties + 1) (set cells i (Some w))
     new_sound = sound_with (ties + 1) (Some w) (omega (arith, one_more, ok.counted))
-
-    pub new_answer : put_answer m a b ≡ Ok tt
-    new_answer = put_new m a b may (shown None there) (omega (arith, new_sound.within, ok.counted))
 
     pub new_after : matrix_meaning n (set cells i (Some w)) ≡ put_done m a b w
     new_after = same_meaning (matrix_meaning n (set cells i (Some w))) (put_done m a b w) refl (λ _. refl)

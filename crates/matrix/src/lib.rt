@@ -16,6 +16,7 @@ pub struct TieMatrix<'a> {
     n: u16,
     ties: usize,
     cells: &'a mut [Option<Amount>],
+    ghost sound: { MatrixSound n ties cells.now },
 }
 
 // The place of the cell in row `a` and column `b`.
@@ -32,7 +33,7 @@ impl<'a> TieMatrix<'a> {
     pub fn check(n: u16, cells: usize) -> Result<(), Refusal>
         ensures { result ≡ size_answer n cells }
     {
-        if 2 <= n && n <= 64 && cells == n as usize * n as usize {
+        if (2..=64).contains(&n) && cells == n as usize * n as usize {
             Ok(())
         } else {
             Err(Refusal::BadSize)
@@ -44,48 +45,30 @@ impl<'a> TieMatrix<'a> {
         requires { size_answer n (length cells.old) ≡ Ok tt }
         ensures emptied { Emptied result.cells.now }
         ensures meaning { matrix_meaning result.n result.cells.now ≡ empty_meaning n (n * (n - 1)) }
-        ensures sound { MatrixSound result.n result.ties result.cells.now }
     {
-        let mut matrix = TieMatrix { n, ties: 0, cells };
-        matrix.empty();
-        matrix
-    }
-
-    // Takes every tie away, whatever the cells hold.
-    fn empty(&mut self)
-        requires { size_answer self.old.n (length self.old.cells.now) ≡ Ok tt }
-        ensures emptied { Emptied self.new.cells.now }
-        ensures meaning { matrix_meaning self.new.n self.new.cells.now ≡ empty_meaning self.old.n (self.old.n * (self.old.n - 1)) }
-        ensures sound { MatrixSound self.new.n self.new.ties self.new.cells.now }
-    {
-        for cell in self.cells.iter_mut() {
-            *cell = None;
-        }
-        self.ties = 0;
+        cells.fill(None);
+        TieMatrix { n, ties: 0, cells }
     }
 
     // Gives a pair its tie, in place of the one that it may have.
     fn write_cell(&mut self, a: u16, b: u16, amount: Amount)
-        requires sound { MatrixSound self.old.n self.old.ties self.old.cells.now }
-        requires pair { pair_answer (matrix_meaning self.old.n self.old.cells.now) a b (Ok tt) ≡ Ok tt }
+        requires { pair_answer (matrix_meaning self.old.n self.old.cells.now) a b (Ok tt) ≡ Ok tt }
         ensures accepted { put_answer (matrix_meaning self.old.n self.old.cells.now) a b ≡ Ok tt }
         ensures after { matrix_meaning self.new.n self.new.cells.now ≡ put_done (matrix_meaning self.old.n self.old.cells.now) a b amount }
-        ensures sound { MatrixSound self.new.n self.new.ties self.new.cells.now }
     {
         let i = place(self.n, a, b);
-        if self.cells[i].is_none() {
+        let before = self.cells[i];
+        self.cells[i] = Some(amount);
+        if before.is_none() {
             self.ties += 1;
         }
-        self.cells[i] = Some(amount);
     }
 
     // Takes the tie of a pair away.
     fn empty_cell(&mut self, a: u16, b: u16)
-        requires sound { MatrixSound self.old.n self.old.ties self.old.cells.now }
         requires pair { pair_answer (matrix_meaning self.old.n self.old.cells.now) a b (Ok tt) ≡ Ok tt }
         requires tied { is_some (cell_tie self.old.n self.old.cells.now a b) ≡ true }
-        ensures after { matrix_meaning self.new.n self.new.cells.now ≡ clear_done (matrix_meaning self.old.n self.old.cells.now) a b }
-        ensures sound { MatrixSound self.new.n self.new.ties self.new.cells.now }
+        ensures { matrix_meaning self.new.n self.new.cells.now ≡ clear_done (matrix_meaning self.old.n self.old.cells.now) a b }
     {
         self.cells[place(self.n, a, b)] = None;
         self.ties -= 1;
@@ -95,9 +78,7 @@ impl<'a> TieMatrix<'a> {
 impl<'a> TieStore for TieMatrix<'a> {
     ghost meaning = { λ s. matrix_meaning s.n s.cells.now };
 
-    ghost sound = { λ s. MatrixSound s.n s.ties s.cells.now };
-
-    ghost lawful = { λ s h. matrix_lawful s.n s.ties s.cells.now h };
+    ghost lawful = { λ s. matrix_lawful s.n s.ties s.cells.now s.sound };
 
     fn marker_count(&self) -> u16 {
         self.n
