@@ -5,7 +5,7 @@ use Rattle.measure.specs.declared.Amount.{Amount}
 use Rattle.store.specs.declared.Refusal.{Refusal}
 use Rattle.store.specs.declared.Refusal.TheVariants.{PairEmpty, StoreFull}
 use Rattle.store.specs.Meaning.{StoreMeaning, is_done, same_pair, set_tie, pair_answer, put_answer, put_after, put_done, clear_answer, clear_after, clear_done}
-use Rattle.store.proofs.Calls.{same_meaning, Writable, passed, refused, writable_answer, put_refused, clear_refused}
+use Rattle.store.proofs.Calls.{same_meaning, Writable, passed, writable_answer}
 use Rattle.layers.specs.Layers.{in_set, lock, screen, Put, Cleared}
 
 -- ---- any layer
@@ -31,13 +31,6 @@ module _ (layer : StoreMeaning → StoreMeaning) (m o : StoreMeaning) (a b : ℕ
     after = ap layer after ∙ through layer m (clear_done m a b) (clear_done (layer m) a b) _ _ same done;
     below = after ∙ ap (λ t. cond (is_done t) (clear_done m a b) m) (sym answer);
   }
-
-module _ (layer : StoreMeaning → StoreMeaning) (m : StoreMeaning) (a b : ℕ) (why : Refusal) (e : Err why ≡ pair_answer (layer m) a b (Ok tt)) where
-  pub put_stopped : (w : Amount) → Put layer m a b w (Err why) m
-  put_stopped w = record { answer = sym (refused (layer m) a b why _ (sym e)); after = sym (put_refused (layer m) a b w why (refused (layer m) a b why _ (sym e))); below = refl }
-
-  pub clear_stopped : Cleared layer m a b (Err why) m
-  clear_stopped = record { answer = sym (refused (layer m) a b why _ (sym e)); after = sym (clear_refused (layer m) a b why (refused (layer m) a b why _ (sym e))); below = refl }
 
 -- ---- the lock and the screen, where the pair may be written
 module _ (set : ℕ) (m : StoreMeaning) (a b : ℕ) (e : Ok tt ≡ pair_answer (lock set m) a b (Ok tt)) where

@@ -19,9 +19,7 @@ pub struct Locked<S> {
 impl<S: TieStore> Locked<S> {
     /// Closes the markers of the set.
     pub fn new(below: S, set: u64) -> Locked<S>
-        requires { S.TieStore.sound below }
         ensures meaning { lock result.set (S.TieStore.meaning result.below) ≡ lock set (S.TieStore.meaning below) }
-        ensures sound { S.TieStore.sound result.below }
         ensures below { result.below ≡ below }
         ensures set { result.set ≡ set }
     {
@@ -38,7 +36,6 @@ impl<S: TieStore> Locked<S> {
 
     // Whether the marker is one of the set.
     pub(crate) fn in_set(&self, marker: u16) -> bool
-        requires { S.TieStore.sound self.now.below }
         ensures { result ≡ in_set self.now.set (S.TieStore.meaning self.now.below) marker }
     {
         marker < self.below.marker_count() && marker < 64 && (self.set >> marker) % 2 == 1
@@ -46,29 +43,21 @@ impl<S: TieStore> Locked<S> {
 
     // A put on the store below, unless the pair is refused here. What is said of a lock holds of a screen too.
     pub(crate) fn put_below(&mut self, a: u16, b: u16, amount: Amount) -> Result<(), Refusal>
-        requires { S.TieStore.sound self.old.below }
         ensures locked { Put (lock self.old.set) (S.TieStore.meaning self.old.below) a b amount result (S.TieStore.meaning self.new.below) }
         ensures screened { Put (screen self.old.set) (S.TieStore.meaning self.old.below) a b amount result (S.TieStore.meaning self.new.below) }
         ensures set { self.new.set ≡ self.old.set }
-        ensures sound { S.TieStore.sound self.new.below }
     {
-        if let Err(why) = self.check_pair(a, b) {
-            return Err(why);
-        }
+        self.check_pair(a, b)?;
         self.below.put(a, b, amount)
     }
 
     // The same of a clear.
     pub(crate) fn clear_below(&mut self, a: u16, b: u16) -> Result<(), Refusal>
-        requires { S.TieStore.sound self.old.below }
         ensures locked { Cleared (lock self.old.set) (S.TieStore.meaning self.old.below) a b result (S.TieStore.meaning self.new.below) }
         ensures screened { Cleared (screen self.old.set) (S.TieStore.meaning self.old.below) a b result (S.TieStore.meaning self.new.below) }
         ensures set { self.new.set ≡ self.old.set }
-        ensures sound { S.TieStore.sound self.new.below }
     {
-        if let Err(why) = self.check_pair(a, b) {
-            return Err(why);
-        }
+        self.check_pair(a, b)?;
         self.below.clear(a, b)
     }
 }
@@ -76,9 +65,7 @@ impl<S: TieStore> Locked<S> {
 impl<S: TieStore> TieStore for Locked<S> {
     ghost meaning = { λ s. lock s.set (S.TieStore.meaning s.below) };
 
-    ghost sound = { λ s. S.TieStore.sound s.below };
-
-    ghost lawful = { λ s h. lock_lawful s.set (S.TieStore.meaning s.below) (S.TieStore.lawful s.below h) };
+    ghost lawful = { λ s. lock_lawful s.set (S.TieStore.meaning s.below) (S.TieStore.lawful s.below) };
 
     fn marker_count(&self) -> u16 {
         self.below.marker_count()
@@ -97,20 +84,16 @@ impl<S: TieStore> TieStore for Locked<S> {
     }
 
     fn put(&mut self, a: u16, b: u16, amount: Amount) -> Result<(), Refusal>
-        requires { S.TieStore.sound self.old.below }
         ensures answer { result ≡ put_answer (lock self.old.set (S.TieStore.meaning self.old.below)) a b }
         ensures after { lock self.new.set (S.TieStore.meaning self.new.below) ≡ put_after (lock self.old.set (S.TieStore.meaning self.old.below)) a b amount }
-        ensures sound { S.TieStore.sound self.new.below }
         ensures below { S.TieStore.meaning self.new.below ≡ put_below result (S.TieStore.meaning self.old.below) a b amount }
     {
         self.put_below(a, b, amount)
     }
 
     fn clear(&mut self, a: u16, b: u16) -> Result<(), Refusal>
-        requires { S.TieStore.sound self.old.below }
         ensures answer { result ≡ clear_answer (lock self.old.set (S.TieStore.meaning self.old.below)) a b }
         ensures after { lock self.new.set (S.TieStore.meaning self.new.below) ≡ clear_after (lock self.old.set (S.TieStore.meaning self.old.below)) a b }
-        ensures sound { S.TieStore.sound self.new.below }
         ensures below { S.TieStore.meaning self.new.below ≡ clear_below result (S.TieStore.meaning self.old.below) a b }
     {
         self.clear_below(a, b)

@@ -18,9 +18,7 @@ pub struct Screened<S> {
 impl<S: TieStore> Screened<S> {
     /// Closes the markers of the set, and hides their ties.
     pub fn new(below: S, set: u64) -> Screened<S>
-        requires { S.TieStore.sound below }
         ensures meaning { screen result.locked.set (S.TieStore.meaning result.locked.below) ≡ screen set (S.TieStore.meaning below) }
-        ensures sound { S.TieStore.sound result.locked.below }
         ensures below { result.locked.below ≡ below }
         ensures set { result.locked.set ≡ set }
     {
@@ -40,9 +38,7 @@ impl<S: TieStore> Screened<S> {
 impl<S: TieStore> TieStore for Screened<S> {
     ghost meaning = { λ s. screen s.locked.set (S.TieStore.meaning s.locked.below) };
 
-    ghost sound = { λ s. S.TieStore.sound s.locked.below };
-
-    ghost lawful = { λ s h. screen_lawful s.locked.set (S.TieStore.meaning s.locked.below) (S.TieStore.lawful s.locked.below h) };
+    ghost lawful = { λ s. screen_lawful s.locked.set (S.TieStore.meaning s.locked.below) (S.TieStore.lawful s.locked.below) };
 
     fn marker_count(&self) -> u16 {
         self.locked.marker_count()
@@ -64,20 +60,16 @@ impl<S: TieStore> TieStore for Screened<S> {
     }
 
     fn put(&mut self, a: u16, b: u16, amount: Amount) -> Result<(), Refusal>
-        requires { S.TieStore.sound self.old.locked.below }
         ensures answer { result ≡ put_answer (screen self.old.locked.set (S.TieStore.meaning self.old.locked.below)) a b }
         ensures after { screen self.new.locked.set (S.TieStore.meaning self.new.locked.below) ≡ put_after (screen self.old.locked.set (S.TieStore.meaning self.old.locked.below)) a b amount }
-        ensures sound { S.TieStore.sound self.new.locked.below }
         ensures below { S.TieStore.meaning self.new.locked.below ≡ put_below result (S.TieStore.meaning self.old.locked.below) a b amount }
     {
         self.locked.put_below(a, b, amount)
     }
 
     fn clear(&mut self, a: u16, b: u16) -> Result<(), Refusal>
-        requires { S.TieStore.sound self.old.locked.below }
         ensures answer { result ≡ clear_answer (screen self.old.locked.set (S.TieStore.meaning self.old.locked.below)) a b }
         ensures after { screen self.new.locked.set (S.TieStore.meaning self.new.locked.below) ≡ clear_after (screen self.old.locked.set (S.TieStore.meaning self.old.locked.below)) a b }
-        ensures sound { S.TieStore.sound self.new.locked.below }
         ensures below { S.TieStore.meaning self.new.locked.below ≡ clear_below result (S.TieStore.meaning self.old.locked.below) a b }
     {
         self.locked.clear_below(a, b)
