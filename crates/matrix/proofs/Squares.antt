@@ -5,7 +5,7 @@ use Rattle.std.proofs.lemmas.Bool.{cond-true, cond-false, and_from, and_parts, a
 use Rattle.measure.specs.declared.Amount.{Amount}
 use Rattle.store.specs.declared.Refusal.{Refusal}
 use Rattle.store.specs.declared.Refusal.TheVariants.{BadSize}
-use Rattle.store.specs.Meaning.{StoreMeaning, same_pair, set_tie, put_done, clear_done, empty_meaning}
+use Rattle.store.specs.Meaning.{StoreMeaning, same_pair, set_tie, put_done, clear_done}
 use Rattle.store.proofs.Calls.{same_meaning, Writable, put_free}
 use Rattle.store.proofs.Records.{by_pair}
 use Rattle.matrix.specs.Matrix.{cell_at, Emptied, cell_tie, tie_count, matrix_meaning, MatrixSound, size_answer}
@@ -150,6 +150,3 @@ module _ (n : ℕ) (cells : List (Option Amount)) (fits : size_answer n (length 
   blank_sound =
       let size = size_passed n (length cells) fits in
       record { low = size.0; high = size.1; size = size.2; within = omega arith; counted = sym (count_none n _ no_tie) }
-
-  pub blank_meaning : matrix_meaning n cells ≡ empty_meaning n (n * (n - 1))
-  blank_meaning = same_meaning (matrix_meaning n cells) (empty_meaning n (n * (n - 1))) refl (λ _. refl) no_tie (omega (arith, count_none n _ no_tie))

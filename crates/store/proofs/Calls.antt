@@ -85,14 +85,8 @@ module _ (m : StoreMeaning) (a b : ℕ) where
   pub put_accepted : (w : Amount) → put_answer m a b ≡ Ok tt → put_after m a b w ≡ put_done m a b w
   put_accepted w e = ap (λ r. cond (is_done r) (put_done m a b w) m) e
 
-  pub put_refused : (w : Amount) (why : Refusal) → put_answer m a b ≡ Err why → put_after m a b w ≡ m
-  put_refused w why e = ap (λ r. cond (is_done r) (put_done m a b w) m) e
-
   pub clear_accepted : clear_answer m a b ≡ Ok tt → clear_after m a b ≡ clear_done m a b
   clear_accepted e = ap (λ r. cond (is_done r) (clear_done m a b) m) e
-
-  pub clear_refused : (why : Refusal) → clear_answer m a b ≡ Err why → clear_after m a b ≡ m
-  clear_refused why e = ap (λ r. cond (is_done r) (clear_done m a b) m) e
 
   pub put_free : (w : Amount) (t : Option Amount) → m.tie a b ≡ t → (put_done m a b w).free ≡ cond (is_some t) m.free (m.free - 1)
   put_free w t e = ap (λ (t : Option Amount). cond (is_some t) m.free (m.free - 1)) e
