@@ -23,7 +23,7 @@ inked_signed : (z : ℤ) → Bounded z → Inked (signed_decimal z)
 inked_signed (pos n) h = inked_numeral (decimal n) (numeral_decimal n (omega arith))
 inked_signed (negsuc n) h = (omega arith, inked_numeral (decimal (suc n)) (numeral_decimal (suc n) (omega arith)))
 
-inked_amount : (z : ℤ) (strict : Bool) → Bounded z → Inked (spell_amount (z, strict))
+inked_amount : (z : ℤ) (strict : Bool) → Bounded z → Inked (spell_amount (record { mm = z; strict = strict }))
 inked_amount z true h = All-append (λ b. 32 ≤ b) (signed_decimal z) (32 ∷ 60 ∷ []) (inked_signed z h) (omega arith, (omega arith, tt))
 inked_amount z false h = All-append (λ b. 32 ≤ b) (signed_decimal z) [] (inked_signed z h) tt
 
@@ -36,9 +36,9 @@ inked_keyed c bs h i = (h, (omega arith, i))
 inked : (l : Line) → Valid l → Inked (spell l)
 inked (TotalDepth mm) v = inked_keyed 72 _ (omega arith) (inked_signed mm v)
 inked (Marker name) v = inked_keyed 77 _ (omega arith) (inked_name name.now v)
-inked (Tie start end mm strict) v =
+inked (Tie start end amount) v =
     inked_keyed 84 _ (omega arith)
-    (inked_two start.now _ (inked_name start.now v.0) (inked_two end.now _ (inked_name end.now v.1) (inked_amount mm strict v.2)))
+    (inked_two start.now _ (inked_name start.now v.0) (inked_two end.now _ (inked_name end.now v.1) (inked_amount amount.mm amount.strict v.2)))
 inked (Trailer place count) v =
     inked_keyed 90 _ (omega arith) (inked_two place.now _ (inked_numeral place.now v.0) (inked_numeral count.now v.1))
 

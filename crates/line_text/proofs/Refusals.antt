@@ -1,95 +1,68 @@
--- Which bytes spell no line. Assumes nothing.
-use Rattle.std.proofs.Common.{◌≡◌, ℕ, ◌-◌, ◌≤◌, Bool, true, false, List, [], ◌∷◌, ◌++◌, length, get_or, take, drop, ℤ, sym, ap, ◌∙◌, subst, append-nil, arith}
+-- Which bytes spell no line, and what the parts of a line are. Assumes nothing.
+use Rattle.std.proofs.Common.{◌≡◌, ℕ, Bool, true, false, List, [], ◌∷◌, ◌++◌, drop, ℤ, Some, None, Option, unwrap_or, is_some, MatchOption, ◌≢◌, sym, ap, ◌∙◌, subst, append-nil, arith, Bor}
 use Rattle.std.specs.Fmt.{signed_decimal}
-use Rattle.std.proofs.lemmas.List.{drop_more}
-use Rattle.std.proofs.lemmas.Slice.{between_to_end}
+use Rattle.std.proofs.lemmas.List.{append_cancel_right}
 use Rattle.line_text.specs.Lines.{spell, spell_amount, Valid}
 use Rattle.line_text.specs.Spelling.{Bounded, Name, Numeral, Spaceless}
 use Rattle.line_text.specs.declared.lines.Line.{Line}
 use Rattle.line_text.specs.declared.lines.Line.TheVariants.{TotalDepth, Marker, Tie, Trailer}
-use Rattle.line_text.proofs.Cuts.{cut_same, uncut, spaceless_name, spaceless_numeral, spaceless_signed}
+use Rattle.line_text.specs.declared.lines.TieAmount.{TieAmount}
+use Rattle.line_text.proofs.Cuts.{heads, cut_same, uncut, spaceless_name, spaceless_numeral, spaceless_signed}
 
--- millimetres with no space after them
-pub amount_plain : (bs : List ℕ) → Spaceless bs → ((z : ℤ) → Bounded z → signed_decimal z ≡ bs → ⊥) → (a : ℤ × Bool) → Bounded a.0 → spell_amount a ≡ bs → ⊥
-amount_plain bs s none (z, true) h e = uncut 32 (signed_decimal z) (60 ∷ []) bs s e
-amount_plain bs s none (z, false) h e = none z h (sym (append-nil (signed_decimal z)) ∙ e)
+-- ---- amounts: what stands in front of the last ` <`, or all of the bytes where none does
+abbrev pub Fronted : List ℕ → Option (Bor (List ℕ)) → Type 0
+Fronted bs front = MatchOption front ((x : List ℕ) → bs ≢ x ++ 32 ∷ 60 ∷ []) (λ x. bs ≡ x.now ++ 32 ∷ 60 ∷ [])
 
-module _ (bs x y : List ℕ) (s : Spaceless x) (is : bs ≡ x ++ 32 ∷ y) where
-  -- something else than `<` after a space
-  pub amount_other : (y ≡ 60 ∷ [] → ⊥) → (a : ℤ × Bool) → Bounded a.0 → spell_amount a ≡ bs → ⊥
-  amount_other other (z, true) h e = other (sym (cut_same 32 (signed_decimal z) (60 ∷ []) x y (spaceless_signed z h) s (e ∙ is)).1)
-  amount_other other (z, false) h e = uncut 32 x y (signed_decimal z) (spaceless_signed z h) (sym is ∙ sym e ∙ append-nil (signed_decimal z))
+fronted_none : (b : Bor (List ℕ)) (front : Option (Bor (List ℕ))) → Fronted b.now front → ((z : ℤ) → Bounded z → signed_decimal z ≢ (unwrap_or front b).now)
+    → (z : ℤ) (strict : Bool) → Bounded z → spell_amount (record { mm = z; strict = strict }) ≢ b.now
+fronted_none b None other none z true h e = other (signed_decimal z) (sym e)
+fronted_none b None other none z false h e = none z h (sym (append-nil (signed_decimal z)) ∙ e)
+fronted_none b (Some x) is none z true h e = none z h (append_cancel_right (signed_decimal z) x.now (32 ∷ 60 ∷ []) (e ∙ is))
+fronted_none b (Some x) is none z false h e = uncut 32 x.now (60 ∷ []) (signed_decimal z) (spaceless_signed z h) (sym is ∙ sym e ∙ append-nil (signed_decimal z))
 
-  -- no amount before ` <`
-  pub amount_marked : ((z : ℤ) → Bounded z → signed_decimal z ≡ x → ⊥) → (a : ℤ × Bool) → Bounded a.0 → spell_amount a ≡ bs → ⊥
-  amount_marked none (z, true) h e = none z h (cut_same 32 (signed_decimal z) (60 ∷ []) x y (spaceless_signed z h) s (e ∙ is)).0
-  amount_marked none (z, false) h e = uncut 32 x y (signed_decimal z) (spaceless_signed z h) (sym is ∙ sym e ∙ append-nil (signed_decimal z))
+pub amount_none : (b : Bor (List ℕ)) (front : Option (Bor (List ℕ))) → Fronted b.now front → ((z : ℤ) → Bounded z → signed_decimal z ≢ (unwrap_or front b).now) → (a : TieAmount) → Bounded a.mm → spell_amount a ≢ b.now
+amount_none b front f none a = fronted_none b front f none a.mm a.strict
+
+pub amount_some : (b : Bor (List ℕ)) (front : Option (Bor (List ℕ))) → Fronted b.now front → (z : ℤ) → signed_decimal z ≡ (unwrap_or front b).now → spell_amount (record { mm = z; strict = is_some front }) ≡ b.now
+amount_some b None other z e = append-nil (signed_decimal z) ∙ e
+amount_some b (Some x) is z e = ap (λ l. l ++ 32 ∷ 60 ∷ []) e ∙ sym is
 
 -- ties
-abbrev pub TieSpelt : List ℕ → Type 0
-TieSpelt bs = (s e : List ℕ) (a : ℤ × Bool) → Name s → Name e → Bounded a.0 → s ++ 32 ∷ (e ++ 32 ∷ spell_amount a) ≡ bs → ⊥
+abbrev pub TieParts : List ℕ → List ℕ → List ℕ → Type 0
+TieParts s e last = Name s × Name e × ((a : TieAmount) × Bounded a.mm × (spell_amount a ≡ last))
 
-pub tie_only : (bs : List ℕ) → TieSpelt bs → (l : Line) → Valid l → spell l ≡ 84 ∷ 32 ∷ bs → ⊥
-tie_only bs none (TotalDepth mm) v e = omega (arith, ap (λ l. get_or l 0 0) e)
-tie_only bs none (Marker name) v e = omega (arith, ap (λ l. get_or l 0 0) e)
-tie_only bs none (Tie start end mm strict) v e = none start.now end.now (mm, strict) v.0 v.1 v.2 (ap (drop 2) e)
-tie_only bs none (Trailer place count) v e = omega (arith, ap (λ l. get_or l 0 0) e)
+pub tie_of : (bs : List ℕ) (l : Line) → Valid l → spell l ≡ 84 ∷ 32 ∷ bs → (s : List ℕ) × (e : List ℕ) × (last : List ℕ) × (s ++ 32 ∷ (e ++ 32 ∷ last) ≡ bs) × TieParts s e last
+tie_of bs (TotalDepth mm) v e = absurd (omega (arith, heads e))
+tie_of bs (Marker name) v e = absurd (omega (arith, heads e))
+tie_of bs (Tie start end amount) v e = (start.now, end.now, spell_amount amount, ap (drop 2) e, (v.0, v.1, (amount, v.2, λ i. spell_amount amount)))
+tie_of bs (Trailer place count) v e = absurd (omega (arith, heads e))
 
-pub tie_uncut : (bs : List ℕ) → Spaceless bs → TieSpelt bs
-tie_uncut bs sp s e a ns ne h is = uncut 32 s _ bs sp is
+pub tie_uncut : (bs : List ℕ) → Spaceless bs → (l : Line) → Valid l → spell l ≡ 84 ∷ 32 ∷ bs → ⊥
+tie_uncut bs sp l v e = let t = tie_of bs l v e in uncut 32 t.0 _ bs sp t.3
 
 module _ (bs x y : List ℕ) (sp : Spaceless x) (is : bs ≡ x ++ 32 ∷ y) where
-  pub tie_uncut_end : Spaceless y → TieSpelt bs
-  tie_uncut_end sy s e a ns ne h q = uncut 32 e _ y sy (cut_same 32 s _ x y (spaceless_name s ns) sp (q ∙ is)).1
+  pub tie_uncut_end : Spaceless y → (l : Line) → Valid l → spell l ≡ 84 ∷ 32 ∷ bs → ⊥
+  tie_uncut_end sy l v e = let t = tie_of bs l v e in uncut 32 t.1 _ y sy (cut_same 32 t.0 _ x y (spaceless_name t.0 t.4.0) sp (t.3 ∙ is)).1
 
-  pub tie_start : (Name x → ⊥) → TieSpelt bs
-  tie_start bad s e a ns ne h q = bad (subst Name (cut_same 32 s _ x y (spaceless_name s ns) sp (q ∙ is)).0 ns)
-
-  module _ (u v : List ℕ) (su : Spaceless u) (js : y ≡ u ++ 32 ∷ v) where
-    pub tie_end : (Name u → ⊥) → TieSpelt bs
-    tie_end bad s e a ns ne h q =
-        let p = (cut_same 32 s _ x y (spaceless_name s ns) sp (q ∙ is)).1 in
-        bad (subst Name (cut_same 32 e _ u v (spaceless_name e ne) su (p ∙ js)).0 ne)
-
-    pub tie_amount : ((a : ℤ × Bool) → Bounded a.0 → spell_amount a ≡ v → ⊥) → TieSpelt bs
-    tie_amount none s e a ns ne h q =
-        let p = (cut_same 32 s _ x y (spaceless_name s ns) sp (q ∙ is)).1 in
-        none a h (cut_same 32 e _ u v (spaceless_name e ne) su (p ∙ js)).1
+  pub tie_parts : (u w : List ℕ) → Spaceless u → y ≡ u ++ 32 ∷ w → (l : Line) → Valid l → spell l ≡ 84 ∷ 32 ∷ bs → TieParts x u w
+  tie_parts u w su js l v e =
+      let t = tie_of bs l v e in
+      let one = cut_same 32 t.0 _ x y (spaceless_name t.0 t.4.0) sp (t.3 ∙ is) in
+      let two = cut_same 32 t.1 _ u w (spaceless_name t.1 t.4.1) su (one.1 ∙ js) in
+      (subst Name one.0 t.4.0, subst Name two.0 t.4.1, subst (λ last. (a : TieAmount) × Bounded a.mm × (spell_amount a ≡ last)) two.1 t.4.2)
 
 -- the trailer
-abbrev pub TrailerSpelt : List ℕ → Type 0
-TrailerSpelt bs = (p n : List ℕ) → Numeral p → Numeral n → p ++ 32 ∷ n ≡ bs → ⊥
+pub trailer_of : (bs : List ℕ) (l : Line) → Valid l → spell l ≡ 90 ∷ 32 ∷ bs → (p : List ℕ) × (n : List ℕ) × (p ++ 32 ∷ n ≡ bs) × Numeral p × Numeral n
+trailer_of bs (TotalDepth mm) v e = absurd (omega (arith, heads e))
+trailer_of bs (Marker name) v e = absurd (omega (arith, heads e))
+trailer_of bs (Tie start end amount) v e = absurd (omega (arith, heads e))
+trailer_of bs (Trailer place count) v e = (place.now, count.now, ap (drop 2) e, v.0, v.1)
 
-pub trailer_only : (bs : List ℕ) → TrailerSpelt bs → (l : Line) → Valid l → spell l ≡ 90 ∷ 32 ∷ bs → ⊥
-trailer_only bs none (TotalDepth mm) v e = omega (arith, ap (λ l. get_or l 0 0) e)
-trailer_only bs none (Marker name) v e = omega (arith, ap (λ l. get_or l 0 0) e)
-trailer_only bs none (Tie start end mm strict) v e = omega (arith, ap (λ l. get_or l 0 0) e)
-trailer_only bs none (Trailer place count) v e = none place.now count.now v.0 v.1 (ap (drop 2) e)
+pub trailer_uncut : (bs : List ℕ) → Spaceless bs → (l : Line) → Valid l → spell l ≡ 90 ∷ 32 ∷ bs → ⊥
+trailer_uncut bs sp l v e = let t = trailer_of bs l v e in uncut 32 t.0 _ bs sp t.2
 
-pub trailer_uncut : (bs : List ℕ) → Spaceless bs → TrailerSpelt bs
-trailer_uncut bs sp p n hp hn is = uncut 32 p _ bs sp is
-
-module _ (bs x y : List ℕ) (sp : Spaceless x) (is : bs ≡ x ++ 32 ∷ y) where
-  pub trailer_place : (Numeral x → ⊥) → TrailerSpelt bs
-  trailer_place bad p n hp hn q = bad (subst Numeral (cut_same 32 p _ x y (spaceless_numeral p hp) sp (q ∙ is)).0 hp)
-
-  pub trailer_count : (Numeral y → ⊥) → TrailerSpelt bs
-  trailer_count bad p n hp hn q = bad (subst Numeral (cut_same 32 p _ x y (spaceless_numeral p hp) sp (q ∙ is)).1 hn)
-
--- the total depth and a marker
-pub depth_only : (bs : List ℕ) → ((z : ℤ) → Bounded z → signed_decimal z ≡ bs → ⊥) → (l : Line) → Valid l → spell l ≡ 72 ∷ 32 ∷ bs → ⊥
-depth_only bs none (TotalDepth mm) v e = none mm v (ap (drop 2) e)
-depth_only bs none (Marker name) v e = omega (arith, ap (λ l. get_or l 0 0) e)
-depth_only bs none (Tie start end mm strict) v e = omega (arith, ap (λ l. get_or l 0 0) e)
-depth_only bs none (Trailer place count) v e = omega (arith, ap (λ l. get_or l 0 0) e)
-
-pub marker_only : (bs : List ℕ) → (Name bs → ⊥) → (l : Line) → Valid l → spell l ≡ 77 ∷ 32 ∷ bs → ⊥
-marker_only bs none (TotalDepth mm) v e = omega (arith, ap (λ l. get_or l 0 0) e)
-marker_only bs none (Marker name) v e = none (subst Name (ap (drop 2) e) v)
-marker_only bs none (Tie start end mm strict) v e = omega (arith, ap (λ l. get_or l 0 0) e)
-marker_only bs none (Trailer place count) v e = omega (arith, ap (λ l. get_or l 0 0) e)
-
--- a list by its first two bytes, as a pattern takes it apart
-pub keyed : (a b : ℕ) (bs : List ℕ) → 2 ≤ length bs → get_or bs 0 0 ≡ a → get_or bs 1 0 ≡ b → bs ≡ a ∷ b ∷ take (length bs - 2) (drop 2 bs)
-keyed a b bs two p q =
-    drop_more bs 0 0 (omega arith) ∙ ap (λ l. get_or bs 0 0 ∷ l) (drop_more bs 1 0 (omega arith)) ∙ (λ i. p i ∷ q i ∷ sym (between_to_end bs 2 (length bs) (omega arith)) i)
+pub trailer_parts : (bs x y : List ℕ) → Spaceless x → bs ≡ x ++ 32 ∷ y → (l : Line) → Valid l → spell l ≡ 90 ∷ 32 ∷ bs → Numeral x × Numeral y
+trailer_parts bs x y sp is l v e =
+    let t = trailer_of bs l v e in
+    let one = cut_same 32 t.0 t.1 x y (spaceless_numeral t.0 t.3) sp (t.2 ∙ is) in
+    (subst Numeral one.0 t.3, subst Numeral one.1 t.4)

@@ -10,7 +10,7 @@ use Rattle.line_text.specs.declared.lines.Line.TheVariants.{TotalDepth as DepthL
 use Rattle.line_text.proofs.Inked.{unended}
 use Rattle.sheet_text.specs.Format.{Well, lines, depth_text, marker_text, tie_text, trailer_text, head_lines, tie_lines, document, Named, Tied, Proper}
 use Rattle.sheet_text.specs.Naming.{place_of}
-use Rattle.sheet_text.specs.Reading.{Known, start, add_name, put_tie, add_tie, finish, read_trailer, Outcome}
+use Rattle.sheet_text.specs.Reading.{Known, start, add_name, put_tie, add_tie, finish, after, read_trailer, Outcome}
 use Rattle.sheet_text.specs.Reading.Outcome.{ended, good}
 use Rattle.sheet_text.specs.Tying.{no_tie, tied_in, tie_answer}
 use Rattle.sheet_text.specs.declared.faults.Code.TheVariants.{Count, Trailer}
@@ -49,14 +49,14 @@ new_pair n room us more t s =
 -- ---- one line of a well's text
 
 abbrev at_markers : ℕ → ℤ → List (List ℕ) → Known
-at_markers room h ns = record { phase = AtMarkers; depth = h; names = ns; ties = []; room = room; first = 0 }
+at_markers room h ns = record { phase = AtMarkers; depth = h; names = ns; ties = []; room = room }
 
 abbrev at_ties : ℕ → ℤ → List (List ℕ) → ℕ → List Tie → Known
-at_ties room h ns first ts = record { phase = AtTies; depth = h; names = ns; ties = ts; room = room; first = first }
+at_ties room h ns first ts = record { phase = AtTies first; depth = h; names = ns; ties = ts; room = room }
 
 -- what is known after the text of a well
 abbrev pub at_end : ℕ → Well → Known
-at_end room w = record { phase = AtEnd; depth = w.depth; names = w.names; ties = w.ties; room = room; first = length (lines (head_lines w.depth w.names)) }
+at_end room w = record { phase = AtEnd; depth = w.depth; names = w.names; ties = w.ties; room = room }
 
 module _ (room : ℕ) (h : ℤ) (ms more : List (List ℕ)) (name : List ℕ) (n : Named (ms ++ name ∷ more)) where
   name_added : add_name (at_markers room h ms) name (place_of ms name) ≡ Ok (at_markers room h (ms ++ name ∷ []))
@@ -89,8 +89,8 @@ module _ (k : Known) (first : ℕ) (t : Tie) (more : List Tie) (n : Named k.name
   to : t.end < length k.names
   to = subst (λ u. u.end < length k.names) here (s.ends (length k.ties) there)
 
-  tie_good : (t.start < length k.names) × (t.end < length k.names) × Bounded t.mm
-  tie_good = (from, to, subst (λ u. Bounded u.mm) here (s.bounded (length k.ties) there))
+  tie_good : (t.start < length k.names) × (t.end < length k.names) × Bounded t.amount.mm
+  tie_good = (from, to, subst (λ u. Bounded u.amount.mm) here (s.bounded (length k.ties) there))
 
   let_in : tie_answer (length k.ties) k.room t.start t.end ≡ Ok tt
   let_in =
@@ -102,7 +102,7 @@ module _ (k : Known) (first : ℕ) (t : Tie) (more : List Tie) (n : Named k.name
       cond-false (eqb t.start t.end) (Err SameMarker) (cond (eqb j k.room) (Err StoreFull) (Ok tt)) (ne_eqb t.start t.end unlike)
       ∙ cond-false (eqb j k.room) (Err StoreFull) (Ok tt) (ne_eqb j k.room left)
 
-  tie_added : add_tie k first (place_of k.names (get_or k.names t.start [])) (place_of k.names (get_or k.names t.end [])) t.mm t.strict ≡ put_tie k first t (Ok tt)
+  tie_added : add_tie k first (place_of k.names (get_or k.names t.start [])) (place_of k.names (get_or k.names t.end [])) t.amount ≡ put_tie k first t (Ok tt)
   tie_added =
       let ns = k.names in
       let few = s.few in
@@ -111,7 +111,7 @@ module _ (k : Known) (first : ℕ) (t : Tie) (more : List Tie) (n : Named k.name
       let b = place_at ns t.end (place_of ns (get_or ns t.end [])) n to refl in
       added k first (get_or ns t.start []) (get_or ns t.end []) t a b (new_pair (length ns) k.room k.ties more t s) (omega arith) ∙ ap (put_tie k first t) let_in
 
-finished : (k : Known) (first : ℕ) → finish k first (decimal first) (decimal (length k.ties)) ≡ Ok (record { phase = AtEnd; depth = k.depth; names = k.names; ties = k.ties; room = k.room; first = first })
+finished : (k : Known) (first : ℕ) → finish k first (decimal first) (decimal (length k.ties)) ≡ Ok (record { phase = AtEnd; depth = k.depth; names = k.names; ties = k.ties; room = k.room })
 finished k first =
     let count = decimal (length k.ties) in
     cond-true (bytes_eq (decimal first) (decimal first) && bytes_eq count count) _ (Err Trailer)
@@ -169,7 +169,7 @@ module _ (room : ℕ) (w : Well) (ok : Proper room w) (small : length (lines (he
   two = le-ltb (length ns) 2 ok.two
 
   -- the trailer, after a line at which k was known
-  trailing : (k : Known) (at : ℕ) → read_trailer k.phase k at (decimal place) (decimal (length w.ties)) ≡ Ok (at_end room w) → Outcome r k at (last ++ 10 ∷ [])
+  trailing : (k : Known) (at : ℕ) → read_trailer k at (decimal place) (decimal (length w.ties)) ≡ Ok (at_end room w) → Outcome r k at (last ++ 10 ∷ [])
   trailing k at e =
       good (at_end room w) last [] (trailer_unended place (length w.ties) small few) refl
       (trailer_line place (length w.ties), valid_trailer place (length w.ties) small few, refl, e) (ended (λ i l. absurd (omega arith)) refl)
@@ -178,9 +178,9 @@ module _ (room : ℕ) (w : Well) (ok : Proper room w) (small : length (lines (he
   body [] e =
       let none : decimal 0 ≡ decimal (length w.ties) = ap (λ us. decimal (length us)) e in
       trailing (at_markers room h ns) place
-      (cond-false (ltb (length ns) 2) (Err Count) (finish (at_markers room h ns) place (decimal place) (decimal (length w.ties))) two
+      (ap (λ r. after r (λ first. finish (at_markers room h ns) first (decimal place) (decimal (length w.ties)))) (cond-false (ltb (length ns) 2) (Err Count) (Ok place) two)
       ∙ ap (finish (at_markers room h ns) place (decimal place)) (sym none) ∙ finished (at_markers room h ns) place
-      ∙ (λ i. Ok (record { phase = AtEnd; depth = h; names = ns; ties = e i; room = room; first = place })))
+      ∙ (λ i. Ok (record { phase = AtEnd; depth = h; names = ns; ties = e i; room = room })))
   body (t ∷ ts) e =
       let k = at_markers room h ns in
       let tied : Tied (length ns) room (t ∷ ts) = subst (Tied (length ns) room) (sym e) ok.ties in
@@ -193,7 +193,7 @@ module _ (room : ℕ) (w : Well) (ok : Proper room w) (small : length (lines (he
         tie_line ns t,
         valid,
         refl,
-        cond-false (ltb (length ns) 2) (Err Count) (add_tie k place (place_of ns (get_or ns t.start [])) (place_of ns (get_or ns t.end [])) t.mm t.strict) two ∙ tie_added k place t ts ok.names tied,
+        ap (λ r. after r (λ first. add_tie k first (place_of ns (get_or ns t.start [])) (place_of ns (get_or ns t.end [])) t.amount)) (cond-false (ltb (length ns) 2) (Err Count) (Ok place) two) ∙ tie_added k place t ts ok.names tied,
       )
       (ties r room h ns ok.names place ts (t ∷ []) w.ties next (next + length (lines (tie_lines ns ts))) (last ++ 10 ∷ []) ok.ties (sym e) refl
       (trailing all (next + length (lines (tie_lines ns ts))) (finished all place)))

@@ -6,11 +6,12 @@ use Rattle.std.proofs.str.Laws.{order}
 use Rattle.store.specs.Meaning.{put_answer}
 use Rattle.store.specs.declared.Refusal.TheVariants.{UnknownMarker, SameMarker, ClosedMarker, PairEmpty, StoreFull, BadSize}
 use Rattle.line_text.specs.Lines.{Said}
+use Rattle.line_text.specs.declared.lines.TieAmount.{TieAmount}
 use Rattle.line_text.specs.Lines.Said.{total_depth, marker, tie, trailer}
 use Rattle.sheet_text.specs.Calls.{Checked, Roomy}
 use Rattle.sheet_text.specs.Format.{Tied}
 use Rattle.sheet_text.specs.Naming.{place_of}
-use Rattle.sheet_text.specs.Reading.{Known, read_depth, add_name, read_marker, put_tie, add_tie, read_tie, finish, read_trailer, read_line, Outcome, Answer}
+use Rattle.sheet_text.specs.Reading.{Known, read_depth, add_name, read_marker, put_tie, add_tie, first_tie, after, finish, read_line, Outcome, Answer}
 use Rattle.sheet_text.specs.Reading.Outcome.{ended, good, faulty}
 use Rattle.sheet_text.specs.Tying.{no_tie, tied_in, store_of, tie_answer}
 use Rattle.sheet_text.specs.declared.faults.Code.{Code}
@@ -122,11 +123,11 @@ module _ (k : Known) (fair : Fair k) (large : k.room ≡ 4096) where
             ])
       ]
 
-  add : (first : ℕ) (s u : List ℕ) (a b : Option ℕ) (mm : ℤ) (strict : Bool) → place_of k.names s ≡ a → place_of k.names u ≡ b → is_full (add_tie k first a b mm strict) ≡ false
-  add first s u None b mm strict p q = refl
-  add first s u (Some a) None mm strict p q = refl
-  add first s u (Some a) (Some b) mm strict p q =
-      let t : Tie = record { start = a; end = b; mm = mm; strict = strict } in
+  add : (first : ℕ) (s u : List ℕ) (a b : Option ℕ) (amount : TieAmount) → place_of k.names s ≡ a → place_of k.names u ≡ b → is_full (add_tie k first a b amount) ≡ false
+  add first s u None b amount p q = refl
+  add first s u (Some a) None amount p q = refl
+  add first s u (Some a) (Some b) amount p q =
+      let t : Tie = record { start = a; end = b; amount = amount } in
       let r = put_tie k first t (put_answer (store_of (length k.names) k.room k.ties) a b) in
       elim (cases_Bool (tied_in k.ties a b)) [
         | inl h ↦ ap is_full (cond-true (tied_in k.ties a b) (Err Name) r h)
@@ -138,33 +139,41 @@ module _ (k : Known) (fair : Fair k) (large : k.room ≡ 4096) where
 
   named : (text : List ℕ) (o : Option ℕ) → is_full (add_name k text o) ≡ false
   named text o =
-      let more : Known = record { phase = AtMarkers; depth = k.depth; names = k.names ++ text ∷ []; ties = k.ties; room = k.room; first = k.first } in
+      let more : Known = record { phase = AtMarkers; depth = k.depth; names = k.names ++ text ∷ []; ties = k.ties; room = k.room } in
       either_way (ltb (length k.names) 64) (cond (is_some o) (Err Name) (Ok more)) (Err Count) (either_way (is_some o) (Err Name) (Ok more) refl refl) refl
 
   last : (first : ℕ) (p c : List ℕ) → is_full (finish k first p c) ≡ false
   last first p c =
-      let done : Known = record { phase = AtEnd; depth = k.depth; names = k.names; ties = k.ties; room = k.room; first = first } in
+      let done : Known = record { phase = AtEnd; depth = k.depth; names = k.names; ties = k.ties; room = k.room } in
       either_way (bytes_eq p (decimal first) && bytes_eq c (decimal (length k.ties))) (Ok done) (Err Trailer) refl refl
 
-  line : (ph : Phase) (place : ℕ) (l : Said) → k.phase ≡ ph → is_full (read_line k place l) ≡ false
-  line AtDepth place (total_depth mm) e = ap (λ p. is_full (read_depth p k mm)) e
-  line AtMarkers place (total_depth mm) e = ap (λ p. is_full (read_depth p k mm)) e
-  line AtTies place (total_depth mm) e = ap (λ p. is_full (read_depth p k mm)) e
-  line AtEnd place (total_depth mm) e = ap (λ p. is_full (read_depth p k mm)) e
-  line AtDepth place (marker name) e = ap (λ p. is_full (read_marker p k name)) e
-  line AtMarkers place (marker text) e = ap (λ p. is_full (read_marker p k text)) e ∙ named text (place_of k.names text)
-  line AtTies place (marker name) e = ap (λ p. is_full (read_marker p k name)) e
-  line AtEnd place (marker name) e = ap (λ p. is_full (read_marker p k name)) e
-  line AtDepth place (tie s u a) e = ap (λ p. is_full (read_tie p k place s u a.0 a.1)) e
-  line AtMarkers place (tie s u a) e =
-      ap (λ p. is_full (read_tie p k place s u a.0 a.1)) e
-      ∙ either_way (ltb (length k.names) 2) (Err Count) (add_tie k place (place_of k.names s) (place_of k.names u) a.0 a.1) refl (add place s u (place_of k.names s) (place_of k.names u) a.0 a.1 refl refl)
-  line AtTies place (tie s u a) e = ap (λ p. is_full (read_tie p k place s u a.0 a.1)) e ∙ add k.first s u (place_of k.names s) (place_of k.names u) a.0 a.1 refl refl
-  line AtEnd place (tie s u a) e = ap (λ p. is_full (read_tie p k place s u a.0 a.1)) e
-  line AtDepth place (trailer p c) e = ap (λ ph. is_full (read_trailer ph k place p c)) e
-  line AtMarkers place (trailer p c) e = ap (λ ph. is_full (read_trailer ph k place p c)) e ∙ either_way (ltb (length k.names) 2) (Err Count) (finish k place p c) refl (last place p c)
-  line AtTies place (trailer p c) e = ap (λ ph. is_full (read_trailer ph k place p c)) e ∙ last k.first p c
-  line AtEnd place (trailer p c) e = ap (λ ph. is_full (read_trailer ph k place p c)) e
+  depth_line : (ph : Phase) (mm : ℤ) → is_full (read_depth ph k mm) ≡ false
+  depth_line AtDepth mm = refl
+  depth_line AtMarkers mm = refl
+  depth_line (AtTies first) mm = refl
+  depth_line AtEnd mm = refl
+
+  marker_line : (ph : Phase) (name : List ℕ) → is_full (read_marker ph k name) ≡ false
+  marker_line AtDepth name = refl
+  marker_line AtMarkers name = named name (place_of k.names name)
+  marker_line (AtTies first) name = refl
+  marker_line AtEnd name = refl
+
+  gated : (b : Bool) (here : ℕ) (f : ℕ → Result Known Code) → ((first : ℕ) → is_full (f first) ≡ false) → is_full (after (cond b (Err Count) (Ok here)) f) ≡ false
+  gated true here f h = refl
+  gated false here f h = h here
+
+  later_line : (ph : Phase) (here : ℕ) (f : ℕ → Result Known Code) → ((first : ℕ) → is_full (f first) ≡ false) → is_full (after (first_tie ph k here) f) ≡ false
+  later_line AtDepth here f h = refl
+  later_line AtMarkers here f h = gated (ltb (length k.names) 2) here f h
+  later_line (AtTies first) here f h = h first
+  later_line AtEnd here f h = refl
+
+  line : (here : ℕ) (l : Said) → is_full (read_line k here l) ≡ false
+  line here (total_depth mm) = depth_line k.phase mm
+  line here (marker name) = marker_line k.phase name
+  line here (tie s u a) = later_line k.phase here _ (λ first. add first s u (place_of k.names s) (place_of k.names u) a refl refl)
+  line here (trailer p c) = later_line k.phase here _ (λ first. last first p c)
 
 no_outcome : (f : Fault) {k : Known} {place : ℕ} {rest : List ℕ} → Outcome (Err f) k place rest → Fair k → k.room ≡ 4096 → place ≡ length (front k) → f.code ≡ Store StoreFull → ⊥
 no_outcome f (ended w e) fair large at full = err_ok e
@@ -176,7 +185,7 @@ no_outcome f {k = k} {place = place} (faulty c bytes after w cut (inl g) e) fair
     true_false (sym (ap (λ x. is_full (Err x)) (sym g.0 ∙ code)))
 no_outcome f {k = k} {place = place} (faulty c bytes after w cut (inr (l, v, s, g)) e) fair large at full =
     let code : c ≡ Store StoreFull = sym (ap (λ x. x.code) (err_same e)) ∙ full in
-    true_false (sym (ap is_full (g ∙ ap Err code)) ∙ line k fair large k.phase place _ refl)
+    true_false (sym (ap is_full (g ∙ ap Err code)) ∙ line k fair large place _)
 
 never_full : (text : List ℕ) (f : Fault) → Answer 4096 text (Err f) → f.code ≡ Store StoreFull → ⊥
 never_full text f (inl h) full = true_false (sym (ap (λ x. is_full (Err x)) full) ∙ ap (λ x. is_full (Err x.code)) h.1)

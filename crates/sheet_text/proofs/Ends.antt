@@ -88,7 +88,7 @@ nothing_left front (x ∷ rest) none some e =
 at_end : (ph : Phase) (k : Known) → Fair k → (s : ℕ) → EndsAt (lines (front_lines ph k)) s → ph ≡ AtEnd
 at_end AtDepth k f s e = absurd (not_plain [] s tt e)
 at_end AtMarkers k f s e = absurd (not_plain (head_lines k.depth k.names) s (plain_head k.depth k.names f.depth f.names) e)
-at_end AtTies k f s e =
+at_end (AtTies first) k f s e =
     absurd (not_plain (head_lines k.depth k.names ++ tie_lines k.names k.ties) s
     (All-append Plain (head_lines k.depth k.names) (tie_lines k.names k.ties) (plain_head k.depth k.names f.depth f.names) (plain_ties k.names k.room k.ties f.names f.ties)) e)
 at_end AtEnd k f s e = refl

@@ -1,4 +1,3 @@
-pub mod Held
 pub mod Listed
 pub mod Places
 pub mod Determined

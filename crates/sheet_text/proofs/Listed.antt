@@ -1,7 +1,6 @@
 -- Whether a tie of a pair is in a list, and which. Assumes nothing.
-use Rattle.std.proofs.Common.{◌≡◌, ℕ, zero, suc, ◌+◌, ◌<◌, Bool, true, false, ◌||◌, eqb, List, [], ◌∷◌, ◌++◌, length, get_or, take, Some, None, sym, refl, ap, ◌∙◌, inl, inr, arith}
-use Rattle.std.proofs.lemmas.List.{take_more}
-use Rattle.std.proofs.lemmas.Bool.{cases_Bool, cond-true, cond-false, eq-eqb, eqb-true, and_from, and_parts, or_from}
+use Rattle.std.proofs.Common.{◌≡◌, ℕ, zero, suc, ◌<◌, Bool, true, false, ◌||◌, eqb, List, [], ◌∷◌, length, get_or, Some, None, sym, refl, ap, ◌∙◌, inl, inr, arith}
+use Rattle.std.proofs.lemmas.Bool.{cases_Bool, cond-true, cond-false, eq-eqb, eqb-true, and_from, and_parts}
 use Rattle.sheet_text.specs.Tying.{no_tie, is_of, tied_in, amount_of, tie_of}
 use Rattle.sheet_text.specs.declared.ties.Tie.{Tie}
 
@@ -9,33 +8,13 @@ or_true : (a : Bool) → a || true ≡ true
 or_true true = refl
 or_true false = refl
 
-or_assoc : (a b c : Bool) → (a || b) || c ≡ a || (b || c)
-or_assoc true b c = refl
-or_assoc false b c = refl
-
-false_unless : (b : Bool) → (b ≡ true → ⊥) → b ≡ false
-false_unless true h = absurd (h refl)
-false_unless false h = refl
-
-pub tied_append : (xs ys : List Tie) (a b : ℕ) → tied_in (xs ++ ys) a b ≡ tied_in xs a b || tied_in ys a b
-tied_append [] ys a b = refl
-tied_append (x ∷ xs) ys a b = ap (λ r. is_of a b x || r) (tied_append xs ys a b) ∙ sym (or_assoc (is_of a b x) (tied_in xs a b) (tied_in ys a b))
-
 pub tied_at : (ts : List Tie) (i : ℕ) (d : Tie) (a b : ℕ) → i < length ts → (get_or ts i d).start ≡ a → (get_or ts i d).end ≡ b → tied_in ts a b ≡ true
 tied_at [] i d a b l p q = absurd (omega arith)
 tied_at (t ∷ ts) zero d a b l p q = rw (and_from (eqb t.start a) (eqb t.end b) (eq-eqb _ a p) (eq-eqb _ b q))
 tied_at (t ∷ ts) (suc i) d a b l p q = rw (tied_at ts i d a b (omega arith) p q) (or_true (is_of a b t))
 
-pub untied_more : (ts : List Tie) (i : ℕ) (d : Tie) (a b : ℕ) → i < length ts → tied_in (take i ts) a b ≡ false → ((get_or ts i d).start ≡ a → (get_or ts i d).end ≡ b → ⊥) → tied_in (take (i + 1) ts) a b ≡ false
-untied_more ts i d a b l before other =
-    ap (λ xs. tied_in xs a b) (take_more ts i d l) ∙ tied_append (take i ts) (get_or ts i d ∷ []) a b
-    ∙ or_from (tied_in (take i ts) a b) (is_of a b (get_or ts i d) || false) before
-    (or_from (is_of a b (get_or ts i d)) false
-    (false_unless (is_of a b (get_or ts i d)) (λ t. other (eqb-true _ a (and_parts (eqb (get_or ts i d).start a) (eqb (get_or ts i d).end b) t).0) (eqb-true _ b (and_parts (eqb (get_or ts i d).start a) (eqb (get_or ts i d).end b) t).1)))
-    refl)
-
 pub true_false : true ≡ false → ⊥
-true_false e = let z : ◌≡◌ {A = ℕ} 0 1 = cc in omega arith
+true_false e = cc
 
 -- a pair's tie is one of the ties, and its amount is the pair's
 pub tied_some : (ts : List Tie) (a b : ℕ) → tied_in ts a b ≡ true

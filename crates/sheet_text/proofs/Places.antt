@@ -1,53 +1,45 @@
 -- Where a name stands, and lists that grow by one. Assumes nothing.
-use Rattle.std.proofs.Common.{◌≡◌, ℕ, zero, suc, ◌+◌, ◌<◌, false, ◌⊎◌, List, [], ◌∷◌, ◌++◌, length, get_or, Some, None, sym, ◌∙◌, subst, inl, inr, ⊎_elim, arith}
+use Rattle.std.proofs.Common.{◌≡◌, ℕ, not, position, ◌+◌, ◌<◌, false, ◌⊎◌, ltb, List, [], ◌∷◌, ◌++◌, length, get_or, Some, None, sym, refl, ap, cond, Bor, ◌∙◌, subst, inl, inr, ⊎_elim, arith}
+use lib.ListN.{length-map}
 use Rattle.std.specs.Str.{bytes_eq}
 use Rattle.std.proofs.lemmas.Slice.Eq.{bytes_eq-Decides}
 use Rattle.std.proofs.lemmas.List.{length_push, get_or_push, get_or_append_left}
 use Rattle.std.proofs.str.Laws.{order}
-use Rattle.std.proofs.lemmas.Bool.{cases_Bool, cond-true, cond-false}
+use Rattle.std.proofs.lemmas.Bool.{cases_Bool, cond-true}
 use Rattle.line_text.specs.Spelling.{Name}
 use Rattle.sheet_text.specs.Format.{Named, Tied}
-use Rattle.sheet_text.specs.Naming.{place_from, place_of}
+use Rattle.std.specs.List.{position_or_len}
+use Rattle.std.proofs.lemmas.List.Quantifiers.{position-Some}
+use Rattle.std.proofs.lemmas.List.Sums.{fails_before_first}
+use Rattle.sheet_text.specs.Naming.{texts, place_of}
 use Rattle.sheet_text.specs.Tying.{no_tie, tied_in}
 use Rattle.sheet_text.specs.declared.ties.Tie.{Tie}
 use Rattle.line_text.specs.Spelling.{Bounded}
 use Rattle.sheet_text.proofs.Listed.{tied_at, true_false}
 
 pub some_none : {X : Type 0} {x : X} → Some x ≡ None → ⊥
-some_none e = let z : ◌≡◌ {A = ℕ} 0 1 = cc in omega arith
-
-pub some_same : {X : Type 0} {x y : X} → Some x ≡ Some y → x ≡ y
-some_same e = cc
-
-found_from : (i : ℕ) (xs : List (List ℕ)) (name : List ℕ) (j : ℕ) → place_from i xs name ≡ Some j → (d : ℕ) × (j ≡ i + d) × (d < length xs) × (get_or xs d [] ≡ name)
-found_from i [] name j e = absurd (some_none (sym e))
-found_from i (x ∷ xs) name j e =
-    elim (cases_Bool (bytes_eq x name)) [
-      | inl t ↦ let s : i ≡ j = some_same (sym (cond-true (bytes_eq x name) (Some i) (place_from (i + 1) xs name) t) ∙ e) in (0, omega arith, omega arith, (bytes_eq-Decides x name).0 t)
-      | inr t ↦
-          let r = found_from (i + 1) xs name j (sym (cond-false (bytes_eq x name) (Some i) (place_from (i + 1) xs name) t) ∙ e) in
-          let p : j ≡ i + suc r.0 = omega (arith, r.1) in
-          let q : suc r.0 < length (x ∷ xs) = omega (arith, r.2) in
-          (suc r.0, p, q, r.3)
-    ]
+some_none e = cc
 
 pub found : (xs : List (List ℕ)) (name : List ℕ) (j : ℕ) → place_of xs name ≡ Some j → (j < length xs) × (get_or xs j [] ≡ name)
-found xs name j e =
-    let r = found_from 0 xs name j e in
-    let s : r.0 ≡ j = omega (arith, r.1) in
-    (omega (arith, r.2), subst (λ k. get_or xs k [] ≡ name) s r.3)
-
-missing_from : (i : ℕ) (xs : List (List ℕ)) (name : List ℕ) → place_from i xs name ≡ None → (k : ℕ) → k < length xs → get_or xs k [] ≡ name → ⊥
-missing_from i [] name e k l s = omega arith
-missing_from i (x ∷ xs) name e zero l s = some_none (sym (cond-true (bytes_eq x name) (Some i) (place_from (i + 1) xs name) ((bytes_eq-Decides x name).1 s)) ∙ e)
-missing_from i (x ∷ xs) name e (suc k) l s =
-    elim (cases_Bool (bytes_eq x name)) [
-      | inl t ↦ some_none (sym (cond-true (bytes_eq x name) (Some i) (place_from (i + 1) xs name) t) ∙ e)
-      | inr t ↦ missing_from (i + 1) xs name (sym (cond-false (bytes_eq x name) (Some i) (place_from (i + 1) xs name) t) ∙ e) k (omega arith) s
-    ]
+found xs name j e = let r = position-Some (λ x. bytes_eq x name) xs j [] e in (r.0, (bytes_eq-Decides (get_or xs j []) name).0 r.1)
 
 pub missing : (xs : List (List ℕ)) (name : List ℕ) → place_of xs name ≡ None → (k : ℕ) → k < length xs → get_or xs k [] ≡ name → ⊥
-missing xs name e = missing_from 0 xs name e
+missing xs name e k l s =
+    let place = position_or_len (λ x. bytes_eq x name) xs in
+    elim (cases_Bool (ltb place (length xs))) [
+      | inl t ↦ some_none (sym (cond-true (ltb place (length xs)) (Some place) None t) ∙ e)
+      | inr t ↦ true_false (sym ((bytes_eq-Decides (get_or xs k []) name).1 s) ∙ fails_before_first (λ x. bytes_eq x name) xs k [] (grind (arith, t)))
+    ]
+
+place_or_len_texts : (rs : List (Bor (List ℕ))) (name : List ℕ) → position_or_len (λ r. bytes_eq r.now name) rs ≡ position_or_len (λ x. bytes_eq x name) (texts rs)
+place_or_len_texts [] name = refl
+place_or_len_texts (r ∷ rs) name = ap (λ n. cond (not (bytes_eq r.now name)) (1 + n) 0) (place_or_len_texts rs name)
+
+pub place_of_texts : (rs : List (Bor (List ℕ))) (name : List ℕ) → position (λ r. bytes_eq r.now name) rs ≡ place_of (texts rs) name
+place_of_texts rs name =
+    let p = place_or_len_texts rs name in
+    let q = length-map rs (λ (r : Bor (List ℕ)). r.now) in
+    λ i. cond (ltb (p i) (sym q i)) (Some (p i)) None
 
 before_or_last : {X : Type 0} (xs : List X) (i : ℕ) → i < length xs + 1 → (i < length xs) ⊎ (length xs ≡ i)
 before_or_last xs i l = ⊎_elim (λ b. inl b) (λ b. inr (omega arith)) (order i (length xs))
@@ -87,13 +79,13 @@ named_push ns name n few good new = record {
 pub untied : (ts : List Tie) (a b : ℕ) → tied_in ts a b ≡ false → (k : ℕ) → k < length ts → (get_or ts k no_tie).start ≡ a → (get_or ts k no_tie).end ≡ b → ⊥
 untied ts a b e k l p q = true_false (sym (tied_at ts k no_tie a b l p q) ∙ e)
 
-pub tied_push : (n room : ℕ) (ts : List Tie) (t : Tie) → Tied n room ts → length ts < room → t.start < n → t.end < n → (t.start ≡ t.end → ⊥) → Bounded t.mm → tied_in ts t.start t.end ≡ false → Tied n room (ts ++ t ∷ [])
+pub tied_push : (n room : ℕ) (ts : List Tie) (t : Tie) → Tied n room ts → length ts < room → t.start < n → t.end < n → (t.start ≡ t.end → ⊥) → Bounded t.amount.mm → tied_in ts t.start t.end ≡ false → Tied n room (ts ++ t ∷ [])
 tied_push n room ts t s few a b ab near new = record {
   few = omega (arith, length_push ts t);
   starts = each_push ts t no_tie (λ u. u.start < n) s.starts a;
   ends = each_push ts t no_tie (λ u. u.end < n) s.ends b;
   unlike = each_push ts t no_tie (λ u. u.start ≡ u.end → ⊥) s.unlike ab;
-  bounded = each_push ts t no_tie (λ u. Bounded u.mm) s.bounded near;
+  bounded = each_push ts t no_tie (λ u. Bounded u.amount.mm) s.bounded near;
   apart = λ i j l m p q. apart_push ts t no_tie (λ u v. (u.start ≡ v.start) × (u.end ≡ v.end)) (λ i j l m r. s.apart i j l m r.0 r.1)
       (λ k l r. untied ts t.start t.end new k l r.0 r.1) (λ k l r. untied ts t.start t.end new k l (sym r.0) (sym r.1)) i j l m (p, q);
 }

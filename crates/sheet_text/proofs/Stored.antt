@@ -5,7 +5,7 @@ use Rattle.store.specs.Meaning.{put_answer}
 use Rattle.store.specs.declared.Refusal.{Refusal}
 use Rattle.store.specs.declared.Refusal.TheVariants.{UnknownMarker, SameMarker, StoreFull}
 use Rattle.sheet_text.specs.Naming.{place_of}
-use Rattle.sheet_text.specs.Reading.{Known, put_tie, add_tie}
+use Rattle.sheet_text.specs.Reading.{Known, put_tie, add_tie, first_tie, after, read_tie}
 use Rattle.sheet_text.specs.Tying.{tied_in, tie_of, store_of, tie_answer}
 use Rattle.sheet_text.specs.declared.faults.Code.TheVariants.{Name}
 use Rattle.sheet_text.specs.declared.ties.Tie.{Tie}
@@ -40,11 +40,17 @@ let_through count room a b e =
 
 -- a tie between known names of a pair that is not tied
 pub added : (k : Known) (first : ℕ) (from to : List ℕ) (t : Tie) → place_of k.names from ≡ Some t.start → place_of k.names to ≡ Some t.end → tied_in k.ties t.start t.end ≡ false → length k.ties ≤ k.room
-    → add_tie k first (place_of k.names from) (place_of k.names to) t.mm t.strict ≡ put_tie k first t (tie_answer (length k.ties) k.room t.start t.end)
+    → add_tie k first (place_of k.names from) (place_of k.names to) t.amount ≡ put_tie k first t (tie_answer (length k.ties) k.room t.start t.end)
 added k first from to t p q new few =
     let a = found k.names from t.start p in
     let b = found k.names to t.end q in
     let says = store_says (length k.names) k.room k.ties t.start t.end a.0 b.0 new few in
-    (λ i. add_tie k first (p i) (q i) t.mm t.strict)
+    (λ i. add_tie k first (p i) (q i) t.amount)
     ∙ cond-false (tied_in k.ties t.start t.end) (Err Name) (put_tie k first t (put_answer (store_of (length k.names) k.room k.ties) t.start t.end)) new
     ∙ ap (put_tie k first t) says
+
+-- a tie line of such names, where the first tie line may stand
+pub tie_read : (k : Known) (here first : ℕ) (from to : List ℕ) (t : Tie) (r : Result Unit Refusal) → Ok first ≡ first_tie k.phase k here → place_of k.names from ≡ Some t.start → place_of k.names to ≡ Some t.end → tied_in k.ties t.start t.end ≡ false
+    → length k.ties ≤ k.room → tie_answer (length k.ties) k.room t.start t.end ≡ r → read_tie k here from to t.amount ≡ put_tie k first t r
+tie_read k here first from to t r is p q new few says =
+    ap (λ o. after o (λ first. add_tie k first (place_of k.names from) (place_of k.names to) t.amount)) (sym is) ∙ added k first from to t p q new few ∙ ap (put_tie k first t) says

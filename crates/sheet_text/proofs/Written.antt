@@ -16,12 +16,12 @@ abbrev pub marker_line : List ℕ → Line
 marker_line name = MarkerLine (ref name)
 
 abbrev pub tie_line : List (List ℕ) → Tie → Line
-tie_line ns t = TieLine (ref (get_or ns t.start [])) (ref (get_or ns t.end [])) t.mm t.strict
+tie_line ns t = TieLine (ref (get_or ns t.start [])) (ref (get_or ns t.end [])) t.amount
 
 abbrev pub trailer_line : ℕ → ℕ → Line
 trailer_line place count = TrailerLine (ref (decimal place)) (ref (decimal count))
 
-pub valid_tie : (ns : List (List ℕ)) (t : Tie) → Named ns → t.start < length ns → t.end < length ns → Bounded t.mm → Valid (tie_line ns t)
+pub valid_tie : (ns : List (List ℕ)) (t : Tie) → Named ns → t.start < length ns → t.end < length ns → Bounded t.amount.mm → Valid (tie_line ns t)
 valid_tie ns t n a b m = (n.good t.start a, n.good t.end b, m)
 
 pub valid_trailer : (place count : ℕ) → place < 2 ^ 64 → count < 2 ^ 64 → Valid (trailer_line place count)

@@ -27,7 +27,7 @@ marker_text name = 77 ∷ 32 ∷ name
 
 -- `T`, the names of both ends, the millimetres, and `<` where the tie is strict
 abbrev pub tie_text : List (List ℕ) → Tie → List ℕ
-tie_text ns t = 84 ∷ 32 ∷ (slice_index_or ns t.start [] ++ 32 ∷ (slice_index_or ns t.end [] ++ 32 ∷ spell_amount (t.mm, t.strict)))
+tie_text ns t = 84 ∷ 32 ∷ (slice_index_or ns t.start [] ++ 32 ∷ (slice_index_or ns t.end [] ++ 32 ∷ spell_amount t.amount))
 
 -- `Z`, the place of the first tie line (its own where there is none) and the number of tie lines
 abbrev pub trailer_text : ℕ → ℕ → List ℕ
@@ -59,7 +59,7 @@ pub record Tied (n room : ℕ) (ts : List Tie) : Type 0 where
   pub starts : (i : ℕ) → i < length ts → (get_or ts i no_tie).start < n
   pub ends : (i : ℕ) → i < length ts → (get_or ts i no_tie).end < n
   pub unlike : (i : ℕ) → i < length ts → (get_or ts i no_tie).start ≢ (get_or ts i no_tie).end
-  pub bounded : (i : ℕ) → i < length ts → Bounded (get_or ts i no_tie).mm
+  pub bounded : (i : ℕ) → i < length ts → Bounded (get_or ts i no_tie).amount.mm
   pub apart : (i j : ℕ) → i < length ts → j < length ts → (get_or ts i no_tie).start ≡ (get_or ts j no_tie).start → (get_or ts i no_tie).end ≡ (get_or ts j no_tie).end → i ≡ j
 
 -- a well that a text can say, with at most `room` ties

@@ -1,5 +1,5 @@
 -- What one more line adds to what is known of a text, when it is refused, and what comes of a whole text. Assumes nothing.
-use Rattle.std.specs.Prelude.{◌≡◌, ℕ, ◌+◌, ◌-◌, ◌<◌, ◌≤◌, Bool, cond, ◌&&◌, ◌⊎◌, List, [], ◌∷◌, ◌++◌, length, ℤ, pos, is_some, Some, None, Ok, Err, decimal, Option, Result, ◌≢◌, nat_lt, slice_index}
+use Rattle.std.specs.Prelude.{◌≡◌, ℕ, ◌+◌, ◌-◌, ◌<◌, ◌≤◌, cond, ◌&&◌, ◌⊎◌, List, [], ◌∷◌, ◌++◌, length, ℤ, pos, is_some, Some, None, Ok, Err, decimal, Option, Result, ◌≢◌, nat_lt, slice_index}
 use Rattle.std.specs.Str.{bytes_eq}
 use Rattle.store.specs.Meaning.{code_of, put_answer}
 use Rattle.store.specs.declared.Refusal.{Refusal}
@@ -7,6 +7,7 @@ use Rattle.line_text.specs.Lines.{spell, Valid, Said, said}
 use Rattle.line_text.specs.Lines.Said.{total_depth, marker, tie, trailer}
 use Rattle.line_text.specs.Spelling.{Without}
 use Rattle.line_text.specs.declared.lines.Line.{Line}
+use Rattle.line_text.specs.declared.lines.TieAmount.{TieAmount}
 use Rattle.sheet_text.specs.Format.{Well, Says}
 use Rattle.sheet_text.specs.Naming.{names_of, place_of}
 use Rattle.sheet_text.specs.Tying.{ties_of, tied_in, store_of}
@@ -27,77 +28,82 @@ number_of Name = 23
 number_of Count = 24
 number_of Trailer = 25
 
--- what is known of a text: which lines may come next, what the lines so far say, the most ties that it may have, and the place of the first tie line
+-- what is known of a text: which lines may come next, what the lines so far say, and the most ties that it may have
 pub record Known : Type 0 where
   pub phase : Phase
   pub depth : ℤ
   pub names : List (List ℕ)
   pub ties : List Tie
   pub room : ℕ
-  pub first : ℕ
 
 abbrev pub start : ℕ → Known
-start room = record { phase = AtDepth; depth = pos 0; names = []; ties = []; room = room; first = 0 }
+start room = record { phase = AtDepth; depth = pos 0; names = []; ties = []; room = room }
 
 -- ---- one line
 
 abbrev pub read_depth : Phase → Known → ℤ → Result Known Code
-read_depth AtDepth k mm = Ok (record { phase = AtMarkers; depth = mm; names = k.names; ties = k.ties; room = k.room; first = k.first })
+read_depth AtDepth k mm = Ok (record { phase = AtMarkers; depth = mm; names = k.names; ties = k.ties; room = k.room })
 read_depth AtMarkers k mm = Err Form
-read_depth AtTies k mm = Err Form
+read_depth (AtTies first) k mm = Err Form
 read_depth AtEnd k mm = Err Form
 
 -- a name, and its place in the names so far
 abbrev pub add_name : Known → List ℕ → Option ℕ → Result Known Code
 add_name k name o =
     cond (nat_lt (length k.names) 64)
-    (cond (is_some o) (Err Name) (Ok (record { phase = AtMarkers; depth = k.depth; names = k.names ++ name ∷ []; ties = k.ties; room = k.room; first = k.first })))
+    (cond (is_some o) (Err Name) (Ok (record { phase = AtMarkers; depth = k.depth; names = k.names ++ name ∷ []; ties = k.ties; room = k.room })))
     (Err Count)
 
 abbrev pub read_marker : Phase → Known → List ℕ → Result Known Code
 read_marker AtDepth k name = Err Form
 read_marker AtMarkers k name = add_name k name (place_of k.names name)
-read_marker AtTies k name = Err Form
+read_marker (AtTies first) k name = Err Form
 read_marker AtEnd k name = Err Form
 
 -- a tie to which the store answers r; the first tie line stands at `first`
 abbrev pub put_tie : Known → ℕ → Tie → Result Unit Refusal → Result Known Code
 put_tie k first t (Err e) = Err (Store e)
-put_tie k first t (Ok _) = Ok (record { phase = AtTies; depth = k.depth; names = k.names; ties = k.ties ++ t ∷ []; room = k.room; first = first })
+put_tie k first t (Ok _) = Ok (record { phase = AtTies first; depth = k.depth; names = k.names; ties = k.ties ++ t ∷ []; room = k.room })
 
 -- a tie between the markers of two names: it is put into a store of the ties so far, if its pair is not tied there
-abbrev pub add_tie : Known → ℕ → Option ℕ → Option ℕ → ℤ → Bool → Result Known Code
-add_tie k first None b mm strict = Err Name
-add_tie k first (Some a) None mm strict = Err Name
-add_tie k first (Some a) (Some b) mm strict =
+abbrev pub add_tie : Known → ℕ → Option ℕ → Option ℕ → TieAmount → Result Known Code
+add_tie k first None b amount = Err Name
+add_tie k first (Some a) None amount = Err Name
+add_tie k first (Some a) (Some b) amount =
     cond (tied_in k.ties a b) (Err Name)
-    (put_tie k first (record { start = a; end = b; mm = mm; strict = strict }) (put_answer (store_of (length k.names) k.room k.ties) a b))
+    (put_tie k first (record { start = a; end = b; amount = amount }) (put_answer (store_of (length k.names) k.room k.ties) a b))
 
-abbrev pub read_tie : Phase → Known → ℕ → List ℕ → List ℕ → ℤ → Bool → Result Known Code
-read_tie AtDepth k place s e mm strict = Err Form
-read_tie AtMarkers k place s e mm strict = cond (nat_lt (length k.names) 2) (Err Count) (add_tie k place (place_of k.names s) (place_of k.names e) mm strict)
-read_tie AtTies k place s e mm strict = add_tie k k.first (place_of k.names s) (place_of k.names e) mm strict
-read_tie AtEnd k place s e mm strict = Err Form
+-- where the first tie line stands, if the line at `here` may be a tie line or the trailer
+abbrev pub first_tie : Phase → Known → ℕ → Result ℕ Code
+first_tie AtDepth k here = Err Form
+first_tie AtMarkers k here = cond (nat_lt (length k.names) 2) (Err Count) (Ok here)
+first_tie (AtTies first) k here = Ok first
+first_tie AtEnd k here = Err Form
+
+-- what f makes of x where r is `Ok x`
+abbrev pub after : Result ℕ Code → (ℕ → Result Known Code) → Result Known Code
+after (Ok x) f = f x
+after (Err c) f = Err c
+
+abbrev pub read_tie : Known → ℕ → List ℕ → List ℕ → TieAmount → Result Known Code
+read_tie k here s e amount = after (first_tie k.phase k here) (λ first. add_tie k first (place_of k.names s) (place_of k.names e) amount)
 
 -- the trailer is true where it is written as the true numbers are
 abbrev pub finish : Known → ℕ → List ℕ → List ℕ → Result Known Code
 finish k first place count =
     cond (bytes_eq place (decimal first) && bytes_eq count (decimal (length k.ties)))
-    (Ok (record { phase = AtEnd; depth = k.depth; names = k.names; ties = k.ties; room = k.room; first = first }))
+    (Ok (record { phase = AtEnd; depth = k.depth; names = k.names; ties = k.ties; room = k.room }))
     (Err Trailer)
 
-abbrev pub read_trailer : Phase → Known → ℕ → List ℕ → List ℕ → Result Known Code
-read_trailer AtDepth k here place count = Err Form
-read_trailer AtMarkers k here place count = cond (nat_lt (length k.names) 2) (Err Count) (finish k here place count)
-read_trailer AtTies k here place count = finish k k.first place count
-read_trailer AtEnd k here place count = Err Form
+abbrev pub read_trailer : Known → ℕ → List ℕ → List ℕ → Result Known Code
+read_trailer k here place count = after (first_tie k.phase k here) (λ first. finish k first place count)
 
 -- what is known after the line at `place`, or why it is refused
 abbrev pub read_line : Known → ℕ → Said → Result Known Code
 read_line k place (total_depth mm) = read_depth k.phase k mm
 read_line k place (marker name) = read_marker k.phase k name
-read_line k place (tie s e a) = read_tie k.phase k place s e a.0 a.1
-read_line k place (trailer said count) = read_trailer k.phase k place said count
+read_line k place (tie s e a) = read_tie k place s e a
+read_line k place (trailer said count) = read_trailer k place said count
 
 -- bytes that spell a line after which m is known
 abbrev pub Good : Known → ℕ → List ℕ → Known → Type 0
@@ -141,7 +147,7 @@ Only {X} P x = P x × ((y : X) → P y → y ≡ x)
 -- ---- what calls leave
 
 abbrev pub known : State → Known
-known s = record { phase = s.phase; depth = s.total_depth; names = names_of s.names; ties = ties_of s.ties; room = s.ties.room; first = s.first }
+known s = record { phase = s.phase; depth = s.total_depth; names = names_of s.names; ties = ties_of s.ties; room = s.ties.room }
 
 abbrev pub well_of : State → Well
 well_of s = record { depth = s.total_depth; names = names_of s.names; ties = ties_of s.ties }

@@ -1,5 +1,6 @@
 -- Which ties a table holds, in their order, and what a store of them holds. Assumes nothing.
-use Rattle.std.specs.Prelude.{◌≡◌, ℕ, ◌-◌, Bool, false, cond, ◌&&◌, ◌||◌, List, [], ◌∷◌, ◌++◌, length, take, pos, negsuc, Some, None, Ok, Err, Option, Result, ◌==◌}
+use Rattle.std.specs.Prelude.{◌≡◌, ℕ, ◌-◌, Bool, false, cond, ◌&&◌, List, [], ◌∷◌, ◌++◌, length, pos, negsuc, Some, None, Ok, Err, Option, Result, ◌==◌}
+use Rattle.std.specs.List.{list_any}
 use Rattle.measure.specs.declared.Amount.{Amount}
 use Rattle.store.specs.Meaning.{StoreMeaning}
 use Rattle.store.specs.declared.Refusal.{Refusal}
@@ -8,11 +9,11 @@ use Rattle.sheet_text.specs.declared.ties.Tie.{Tie}
 use Rattle.sheet_text.specs.declared.ties.Ties.{Ties}
 
 abbrev pub no_tie : Tie
-no_tie = record { start = 0; end = 0; mm = pos 0; strict = false }
+no_tie = record { start = 0; end = 0; amount = record { mm = pos 0; strict = false } }
 
 -- the ties of a table, in order
 abbrev pub ties_of : Ties → List Tie
-ties_of t = take t.len t.at
+ties_of t = t.list.items
 
 -- whether the tie is of the pair a, b
 abbrev pub is_of : ℕ → ℕ → Tie → Bool
@@ -20,12 +21,11 @@ is_of a b t = t.start == a && t.end == b
 
 -- whether one of the ties is of the pair
 abbrev pub tied_in : List Tie → ℕ → ℕ → Bool
-tied_in [] a b = false
-tied_in (t ∷ ts) a b = is_of a b t || tied_in ts a b
+tied_in ts a b = list_any (is_of a b) ts
 
 -- a mark of -1 where the tie is strict
 abbrev pub amount_of : Tie → Amount
-amount_of t = record { mm = t.mm; marks = cond t.strict (negsuc 0) (pos 0) }
+amount_of t = record { mm = t.amount.mm; marks = cond t.amount.strict (negsuc 0) (pos 0) }
 
 -- the amount of the tie from a to b, if there is one
 abbrev pub tie_of : List Tie → ℕ → ℕ → Option Amount

@@ -28,7 +28,7 @@ pub fn read_records<'a>(
     }
     *state = State::with_room(records.len());
     read(text, state)?;
-    write(&state.ties, records);
+    write(state.ties.as_slice(), records);
     Ok(state.ties.len())
 }
 

@@ -1,6 +1,6 @@
 //! Reads a text line by line.
 
-ghost use Rattle.std.specs.Prelude.{◌≡◌, ◌≤◌, length, Decides};
+ghost use Rattle.std.specs.Prelude.{◌≡◌, ℕ, ◌-◌, ◌<◌, ◌≤◌, ◌≢◌, length, Decides, slice_index};
 ghost use Rattle.sheet_text.specs.Calls.{Checked, Roomy};
 ghost use Rattle.sheet_text.specs.Reading.{known, well_of, filled, start as beginning, Outcome, Whole, Answer, Only};
 
@@ -17,31 +17,33 @@ fn read_lines<'a>(file: &'a [u8], state: &mut State<'a>) -> Result<(), Fault>
     let mut rest = file;
     let mut place = 0;
     while let Some((line, after)) = cut(rest, b'\n') {
-        if let Err(code) = state.take_bytes(place, line) {
-            return Err(Fault { code, place });
-        }
+        state
+            .take_bytes(place, line)
+            .map_err(|code| Fault { code, place })?;
         place += line.len() as u32 + 1;
         rest = after;
     }
     Ok(())
 }
 
+/// Where the last line begins, of lines of which it alone is not ended.
+fn last_line(lines: &[u8]) -> usize
+    ensures { (result ≤ length lines.now) × (0 < result → slice_index lines.now (result - 1) ≡ 10) × ((k : ℕ) → result ≤ k → k < length lines.now → slice_index lines.now k ≢ 10) }
+{
+    match lines.iter().rposition(|b| *b == b'\n') {
+        Some(end) => end + 1,
+        None => 0,
+    }
+}
+
 /// Whether a text is not too long, and has an ended last line that begins with `Z`.
 fn is_whole(file: &[u8]) -> bool
     ensures { Decides result (Whole file.now) }
 {
-    if file.len() > 65_536 || file.is_empty() {
+    let [lines @ .., b'\n'] = file else {
         return false;
-    }
-    let last = file.len() - 1;
-    // Where the line of `i` begins.
-    let mut start = 0;
-    for i in 0..last {
-        if file[i] == b'\n' {
-            start = i + 1;
-        }
-    }
-    file[last] == b'\n' && file[start] == b'Z'
+    };
+    file.len() <= 65_536 && file[last_line(lines)] == b'Z'
 }
 
 /// Reads a text into `state`, which is new.

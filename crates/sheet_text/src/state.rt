@@ -4,14 +4,14 @@ use crate::names::Names;
 use crate::ties::Ties;
 
 /// Which lines may come next.
-#[derive(Clone, Copy)]
+#[derive(Clone, Copy, PartialEq, Eq)]
 pub enum Phase {
     /// The total depth.
     TotalDepth,
     /// Markers, then ties or the trailer.
     Markers,
-    /// Ties, then the trailer.
-    Ties,
+    /// Ties, then the trailer, where the first tie line stands at this place.
+    Ties(u32),
     /// None.
     End,
 }
@@ -23,6 +23,4 @@ pub struct State<'a> {
     pub total_depth: i64,
     pub names: Names<'a>,
     pub(crate) ties: Ties,
-    /// The place of the first tie line.
-    pub(crate) first: u32,
 }

@@ -1,15 +1,14 @@
 //! Takes in one line more.
 
 ghost use Rattle.std.specs.Prelude.{◌≡◌, ◌≤◌};
-ghost use Rattle.sheet_text.specs.Naming.{names_of, place_of};
-ghost use Rattle.sheet_text.specs.Reading.{known, start as beginning, Does, read_depth, read_marker, add_tie, read_tie, finish, read_trailer, read_line, DoesBytes};
+ghost use Rattle.sheet_text.specs.Reading.{known, start as beginning, Does, read_depth, read_marker, first_tie, read_tie, read_trailer, read_line, DoesBytes};
 ghost use Rattle.line_text.specs.Lines.{said};
 
 use crate::faults::Code;
 use crate::names::Names;
 use crate::state::{Phase, State};
 use crate::ties::{Tie, Ties};
-use line_text::lines::Line;
+use line_text::lines::{Line, TieAmount};
 use line_text::numbers::spells;
 use line_text::parse::parse_line;
 
@@ -31,29 +30,25 @@ impl<'a> State<'a> {
             total_depth: 0,
             names: Names::new(),
             ties: Ties::new(room),
-            first: 0,
         }
     }
 
     fn total_depth(&mut self, mm: i64) -> Result<(), Code>
         ensures { Does (read_depth self.old.phase (known self.old) mm) result self.new }
     {
-        match self.phase {
-            Phase::TotalDepth => {
-                self.phase = Phase::Markers;
-                self.total_depth = mm;
-                Ok(())
-            }
-            _ => Err(Code::Form),
+        if self.phase != Phase::TotalDepth {
+            return Err(Code::Form);
         }
+        self.phase = Phase::Markers;
+        self.total_depth = mm;
+        Ok(())
     }
 
     fn marker(&mut self, name: &'a [u8]) -> Result<(), Code>
         ensures { Does (read_marker self.old.phase (known self.old) name.now) result self.new }
     {
-        match self.phase {
-            Phase::Markers => {}
-            _ => return Err(Code::Form),
+        if self.phase != Phase::Markers {
+            return Err(Code::Form);
         }
         if self.names.len() >= 64 {
             return Err(Code::Count);
@@ -65,121 +60,61 @@ impl<'a> State<'a> {
         Ok(())
     }
 
-    /// Takes in a tie; the first tie line stands at `first`.
-    fn put(
-        &mut self,
-        first: u32,
-        start: &[u8],
-        end: &[u8],
-        mm: i64,
-        strict: bool,
-    ) -> Result<(), Code>
-        ensures { Does (add_tie (known self.old) first (place_of (names_of self.old.names) start.now) (place_of (names_of self.old.names) end.now) mm strict) result self.new }
+    /// Where the first tie line stands, if the line at `here` may be a tie line or the trailer.
+    fn first_tie(&self, here: u32) -> Result<u32, Code>
+        ensures { result ≡ first_tie self.now.phase (known self.now) here }
     {
-        let Some(a) = self.names.find(start) else {
-            return Err(Code::Name);
-        };
-        let Some(b) = self.names.find(end) else {
-            return Err(Code::Name);
-        };
-        if self.ties.has(a, b) {
+        match self.phase {
+            Phase::Markers if self.names.len() < 2 => Err(Code::Count),
+            Phase::Markers => Ok(here),
+            Phase::Ties(first) => Ok(first),
+            Phase::TotalDepth | Phase::End => Err(Code::Form),
+        }
+    }
+
+    fn tie(&mut self, here: u32, start: &[u8], end: &[u8], amount: TieAmount) -> Result<(), Code>
+        ensures { Does (read_tie (known self.old) here start.now end.now amount) result self.new }
+    {
+        let first = self.first_tie(here)?;
+        let start = self.names.find(start).ok_or(Code::Name)?;
+        let end = self.names.find(end).ok_or(Code::Name)?;
+        if self.ties.has(start, end) {
             return Err(Code::Name);
         }
-        self.ties.put(Tie {
-            start: a,
-            end: b,
-            mm,
-            strict,
-        })?;
-        self.phase = Phase::Ties;
-        self.first = first;
+        self.ties.put(Tie { start, end, amount })?;
+        self.phase = Phase::Ties(first);
         Ok(())
     }
 
-    fn tie(
-        &mut self,
-        place: u32,
-        start: &[u8],
-        end: &[u8],
-        mm: i64,
-        strict: bool,
-    ) -> Result<(), Code>
-        ensures { Does (read_tie self.old.phase (known self.old) place start.now end.now mm strict) result self.new }
-    {
-        match self.phase {
-            Phase::Markers => {
-                if self.names.len() < 2 {
-                    return Err(Code::Count);
-                }
-                self.put(place, start, end, mm, strict)
-            }
-            Phase::Ties => {
-                let first = self.first;
-                self.put(first, start, end, mm, strict)
-            }
-            _ => Err(Code::Form),
-        }
-    }
-
-    /// Ends the text; the first tie line stands at `first`.
-    fn end(&mut self, first: u32, place: &[u8], count: &[u8]) -> Result<(), Code>
-        ensures { Does (finish (known self.old) first place.now count.now) result self.new }
-    {
-        let ties = self.ties.len() as u32;
-        if spells(place, first) && spells(count, ties) {
-            self.phase = Phase::End;
-            self.first = first;
-            Ok(())
-        } else {
-            Err(Code::Trailer)
-        }
-    }
-
     fn trailer(&mut self, here: u32, place: &[u8], count: &[u8]) -> Result<(), Code>
-        ensures { Does (read_trailer self.old.phase (known self.old) here place.now count.now) result self.new }
+        ensures { Does (read_trailer (known self.old) here place.now count.now) result self.new }
     {
-        match self.phase {
-            Phase::Markers => {
-                if self.names.len() < 2 {
-                    return Err(Code::Count);
-                }
-                self.end(here, place, count)
-            }
-            Phase::Ties => {
-                let first = self.first;
-                self.end(first, place, count)
-            }
-            _ => Err(Code::Form),
+        let first = self.first_tie(here)?;
+        let ties = self.ties.len() as u32;
+        if !spells(place, first) || !spells(count, ties) {
+            return Err(Code::Trailer);
         }
+        self.phase = Phase::End;
+        Ok(())
     }
 
-    /// Takes in the line that stands at `place`.
-    fn take(&mut self, place: u32, line: Line<'a>) -> Result<(), Code>
-        ensures { Does (read_line (known self.old) place (said line.entry)) result self.new }
+    /// Takes in the line that stands at `here`.
+    fn take(&mut self, here: u32, line: Line<'a>) -> Result<(), Code>
+        ensures { Does (read_line (known self.old) here (said line.entry)) result self.new }
     {
         match line {
             Line::TotalDepth(mm) => self.total_depth(mm),
             Line::Marker(name) => self.marker(name),
-            Line::Tie {
-                start,
-                end,
-                mm,
-                strict,
-            } => self.tie(place, start, end, mm, strict),
-            Line::Trailer {
-                place: first,
-                count,
-            } => self.trailer(place, first, count),
+            Line::Tie { start, end, amount } => self.tie(here, start, end, amount),
+            Line::Trailer { place, count } => self.trailer(here, place, count),
         }
     }
 
-    /// Takes in the line that stands at `place` and has the bytes `bytes`.
-    pub(crate) fn take_bytes(&mut self, place: u32, bytes: &'a [u8]) -> Result<(), Code>
-        ensures { DoesBytes (known self.old) place bytes.now result self.new }
+    /// Takes in the line that stands at `here` and has the bytes `bytes`.
+    pub(crate) fn take_bytes(&mut self, here: u32, bytes: &'a [u8]) -> Result<(), Code>
+        ensures { DoesBytes (known self.old) here bytes.now result self.new }
     {
-        let Some(line) = parse_line(bytes) else {
-            return Err(Code::Form);
-        };
-        self.take(place, line)
+        let line = parse_line(bytes).ok_or(Code::Form)?;
+        self.take(here, line)
     }
 }

@@ -1,21 +1,17 @@
 //! What a table of ties can do.
 
-ghost use Rattle.std.specs.Prelude.{◌≡◌, ◌+◌, ◌<◌, ◌≤◌, [], length, slice_index_or};
-ghost use Rattle.sheet_text.specs.Tying.{ties_of, tied_in, Added, no_tie};
+ghost use Rattle.std.specs.Prelude.{◌≡◌, ◌≤◌, [], length};
+ghost use Rattle.sheet_text.specs.Tying.{ties_of, tied_in, Added};
 
 use super::{Tie, Ties};
+use arrayvec::ArrayVec;
 use store::Refusal;
 
 /// Whether one of `ties` is of the pair.
 fn any_of(ties: &[Tie], start: u16, end: u16) -> bool
     ensures { result ≡ tied_in ties.now start end }
 {
-    for tie in ties {
-        if tie.start == start && tie.end == end {
-            return true;
-        }
-    }
-    false
+    ties.iter().any(|tie| tie.start == start && tie.end == end)
 }
 
 impl Ties {
@@ -25,13 +21,7 @@ impl Ties {
         ensures { (ties_of result ≡ []) × (result.room ≡ room) }
     {
         Ties {
-            at: [Tie {
-                start: 0,
-                end: 0,
-                mm: 0,
-                strict: false,
-            }; 4096],
-            len: 0,
+            list: ArrayVec::new(),
             room,
         }
     }
@@ -40,14 +30,14 @@ impl Ties {
     pub(crate) fn len(&self) -> usize
         ensures { (result ≡ length (ties_of self.now)) × (result ≤ 4096) }
     {
-        self.len
+        self.list.len()
     }
 
     /// Whether there is a tie of the pair.
     pub(crate) fn has(&self, start: u16, end: u16) -> bool
         ensures { result ≡ tied_in (ties_of self.now) start end }
     {
-        any_of(&self.at[0..self.len], start, end)
+        any_of(self.as_slice(), start, end)
     }
 
     /// Adds a tie, or answers what a store of this room answers.
@@ -57,19 +47,17 @@ impl Ties {
         if tie.start == tie.end {
             return Err(Refusal::SameMarker);
         }
-        if self.len == self.room {
+        if self.list.len() == self.room {
             return Err(Refusal::StoreFull);
         }
-        self.at[self.len] = tie;
-        self.len += 1;
+        self.list.push(tie);
         Ok(())
     }
 
-    /// The tie at a place.
-    pub(crate) fn tie(&self, i: usize) -> Tie
-        requires { i < length (ties_of self.now) }
-        ensures { result ≡ slice_index_or (ties_of self.now) i no_tie }
+    /// The ties, in the order of their lines.
+    pub(crate) fn as_slice(&self) -> &[Tie]
+        ensures { result.now ≡ ties_of self.now }
     {
-        self.at[i]
+        self.list.as_slice()
     }
 }

@@ -1,45 +1,30 @@
-use Rattle.std.proofs.Common.{◌≡◌, get_or, take, ap, ◌∙◌, arith, rules}
-use Rattle.std.specs.Str.Parse.{digits_value}
-use Rattle.std.specs.Int.{IsInRange}
-use Rattle.std.proofs.lemmas.Int.Digits.{digits_value_more, digits_more}
-use Rattle.std.proofs.lemmas.List.{take_all}
-use Rattle.std.proofs.lemmas.Str.{digit_value_digit}
+use Rattle.std.proofs.Common.{decimal, sym, ◌∙◌, subst, arith}
 use Rattle.std.proofs.lemmas.Bool.Decides.{nat_tests}
-use Rattle.line_text.proofs.Numerals.{none_empty, none_long, none_zero, none_other, none_past, spelt, so_far}
+use Rattle.std.proofs.lemmas.Fmt.{decimal_injective}
+use Rattle.line_text.specs.Spelling.{Numeral}
+use Rattle.line_text.proofs.Numerals.{as_number, as_text, numeral_decimal, then_reads}
 use Rattle.line_text.proofs.numbers.number.Goals as goal
 
-pub returns-then-is_empty : goal.returns-then-is_empty
-returns-then-is_empty c =
-    search (rules, none_empty c.args.limit c.requires c.args.bytes.now, none_long c.args.limit c.requires c.args.bytes.now)
+pub returns-then-not-is_numeral : goal.returns-then-not-is_numeral
+returns-then-not-is_numeral c = λ n h e. let y = c.is_numeral.ensures.1 (subst Numeral e (numeral_decimal n (omega arith))) in cc
 
-pub returns-then-bytes-gt1 : goal.returns-then-bytes-gt1
-returns-then-bytes-gt1 c = none_zero c.args.limit c.requires c.args.bytes.now (omega arith) (omega arith)
+pub returns-in_err-ok : goal.returns-in_err-ok
+returns-in_err-ok c =
+    let n = c.is_numeral.ensures.0 c.if-not-is_numeral.false in
+    absurd (as_text c.args.bytes.now n _ c.from_utf8.result _ c.in_err-ok.ensures.value c.from_utf8.ensures.cases)
 
-pub returns-then-not-is_ascii_digit : goal.returns-then-not-is_ascii_digit
-returns-then-not-is_ascii_digit c = none_other c.args.limit c.requires c.args.bytes.now c.loop-b.b-index (omega arith) (grind (arith, nat_tests))
-
-pub overflow_mul-value : goal.overflow_mul-value
-overflow_mul-value c = omega (arith, so_far c.args.bytes.now c.loop-b.b-index c.loop-b.invariant.0 (omega arith) (omega arith))
-
-pub overflow_add-value : goal.overflow_add-value
-overflow_add-value c =
-    omega (arith, so_far c.args.bytes.now c.loop-b.b-index c.loop-b.invariant.0 (omega arith) (omega arith), c.type_inv.bytes c.loop-b.b-index)
-
-pub loop-b-preserved : goal.loop-b-preserved
-loop-b-preserved c =
-    let digit : IsInRange 48 57 (get_or c.args.bytes.now c.loop-b.b-index 0) = grind (arith, nat_tests) in
-    let is = digit_value_digit (get_or c.args.bytes.now c.loop-b.b-index 0) digit in (
-      digits_more 10 c.args.bytes.now c.loop-b.b-index (omega arith) c.loop-b.invariant.0 (omega arith),
-      omega (arith, digits_value_more 10 c.args.bytes.now c.loop-b.b-index (omega arith)),
-    )
-
-pub returns-then-value-limit : goal.returns-then-value-limit
-returns-then-value-limit c =
-    let e : take c.loop-b.b-index c.args.bytes.now ≡ c.args.bytes.now = take_all c.loop-b.b-index c.args.bytes.now (omega arith) in
-    none_past c.args.limit c.requires c.args.bytes.now (omega (arith, ap (digits_value 10) e))
+pub returns-in_err-value : goal.returns-in_err-value
+returns-in_err-value c =
+    let n = c.is_numeral.ensures.0 c.if-not-is_numeral.false in
+    let e = as_text c.args.bytes.now n _ c.from_utf8.result _ c.in_ok-ok.ensures.value c.from_utf8.ensures.cases in
+    let none = as_number c.args.bytes.now n c.parse.result _ c.in_err-value.ensures.value (rw e at c.parse.ensures.value.0) in
+    rw c.from_residual-in_err-value.ensures (λ m h s. none m (omega arith) s)
 
 pub returns : goal.returns
 returns c =
-    let e : take c.loop-b.b-index c.args.bytes.now ≡ c.args.bytes.now = take_all c.loop-b.b-index c.args.bytes.now (omega arith) in
-    let v : c.loop-b.value ≡ digits_value 10 c.args.bytes.now = c.loop-b.invariant.1 ∙ ap (digits_value 10) e in
-    (omega arith, rw v (spelt c.args.limit c.requires c.args.bytes.now (rw e at c.loop-b.invariant.0) (search rules) (search rules) (omega arith)))
+    let n = c.is_numeral.ensures.0 c.if-not-is_numeral.false in
+    let e = as_text c.args.bytes.now n _ c.from_utf8.result _ c.in_ok-ok.ensures.value c.from_utf8.ensures.cases in
+    let some = as_number c.args.bytes.now n c.parse.result _ c.in_ok-value.ensures.value (rw e at c.parse.ensures.value.0) in
+    rw c.then_some.ensures
+    (then_reads decimal _ c.args.bytes.now _ c.in_ok-value.value (λ t. (grind (arith, nat_tests), some.1))
+    (λ f m h s. let same = decimal_injective m c.in_ok-value.value (omega arith) (omega arith) (s ∙ sym some.1) in grind (arith, nat_tests)))

@@ -1,5 +1,6 @@
-use Rattle.std.proofs.Common.{◌∷◌, length, refl, ap, subst, arith, length-append}
-use Rattle.sheet_text.specs.Reading.{known, Outcome}
+use Rattle.std.proofs.Common.{◌≡◌, Err, rules, ◌∷◌, length, refl, ap, subst, arith, length-append}
+use Rattle.sheet_text.specs.Reading.{known, Faulty, Outcome}
+use Rattle.std.proofs.lemmas.Result.{err_from_is_err_and}
 use Rattle.sheet_text.specs.Reading.Outcome.{ended, good, faulty}
 use Rattle.sheet_text.proofs.reader.read_lines.Goals as goal
 
@@ -14,7 +15,7 @@ loop-line-smaller c =
 pub loop-line-preserved : goal.loop-line-preserved
 loop-line-preserved c =
     let told = c.in-Some.ensures in (
-      (λ r o. c.loop-line.invariant.0 r (good (known c.take_bytes.new.self) c.in-Some.line.now c.in-Some.after.now told.0 told.1 c.in_default-take_bytes.ensures o)),
+      (λ r o. c.loop-line.invariant.0 r (good (known c.take_bytes.new.self) c.in-Some.line.now c.in-Some.after.now told.0 told.1 (search rules) o)),
       omega (arith, c.loop-line.invariant.1, ap length told.1, length-append c.in-Some.line.now (10 ∷ c.in-Some.after.now)),
     )
 
@@ -34,10 +35,13 @@ overflow_add-place-in-Some c =
     let told = c.in-Some.ensures in
     omega (arith, c.requires.0, c.loop-line.invariant.1, ap length told.1, length-append c.in-Some.line.now (10 ∷ c.in-Some.after.now))
 
-pub returns-in-Err : goal.returns-in-Err
-returns-in-Err c =
+pub returns-in_err-map_err : goal.returns-in_err-map_err
+returns-in_err-map_err c =
     let told = c.in-Some.ensures in
-    c.loop-line.invariant.0 _ (faulty c.in-Err.code c.in-Some.line.now c.in-Some.after.now told.0 told.1 c.in-Err.ensures refl)
+    let p = err_from_is_err_and c.from_residual.result c.from_residual.ensures.1 in
+    let h : Faulty (known c.loop-line.state) c.loop-line.place c.in-Some.line.now c.in_err-map_err.field-0.0.code = search rules in
+    let i : c.in_err-map_err.field-0.0.place ≡ c.loop-line.place = search rules in
+    rw (p.1, p.2) (c.loop-line.invariant.0 _ (faulty c.in_err-map_err.field-0.0.code c.in-Some.line.now c.in-Some.after.now told.0 told.1 h (λ j. Err (record { code = c.in_err-map_err.field-0.0.code; place = i j }))))
 
 pub returns : goal.returns
 returns c = c.loop-line.invariant.0 _ (ended c.in_default.ensures refl)
