@@ -1,7 +1,7 @@
 //! Makes a list of a text's ties.
 
 ghost use Rattle.std.specs.Prelude.{◌≡◌, length, Ok, Err, MatchResult};
-ghost use Rattle.store.specs.List.{list_meaning, ListSound};
+ghost use Rattle.store.specs.List.{list_meaning};
 ghost use Rattle.sheet_text.specs.Reading.{well_of, Only};
 ghost use Rattle.sheet_text.specs.Calls.{Making, well_store, Recorded};
 
@@ -40,8 +40,7 @@ pub fn make<'a, 'r>(
 ) -> Result<TieList<'r>, Fault>
     ensures { MatchResult result
         (λ l. Only (Making (length records.old) text.now) (Ok (well_of state.new))
-        × (list_meaning l.n l.count l.records.now ≡ well_store (length records.old) (well_of state.new))
-        × ListSound l.n l.count l.records.now)
+        × (list_meaning l.n l.count l.records.now ≡ well_store (length records.old) (well_of state.new)))
         (λ f. Only (Making (length records.old) text.now) (Err f)) }
 {
     let count = read_records(text, state, records)?;

@@ -33,6 +33,5 @@ returns c =
     let is : after ≡ map record_of w.ties ++ drop (length w.ties) before = g.2 ∙ ap (λ n. map record_of w.ties ++ drop n before) g.1 in
     let same : list_meaning c.len.result c.in_ok-count.count after ≡ list_meaning (length w.names) (length w.ties) after = λ i. list_meaning (c.len.ensures i) (g.1 i) after in (
       g.0,
-      c.with_ties.ensures.meaning ∙ same ∙ stored (length w.names) (length before) w.ties before after says.1.0.two says.1.0.names.few says.0 refl says.1.0.ties is w refl refl,
-      c.with_ties.ensures.sound,
+      c.with_ties.ensures ∙ same ∙ stored (length w.names) (length before) w.ties before after says.1.0.two says.1.0.names.few says.0 refl says.1.0.ties is w refl refl,
     )
