@@ -2,20 +2,20 @@
 use Rattle.std.specs.Prelude.{◌≡◌, ℕ, zero, suc, ◌<◌, List, [], ◌∷◌, ◌++◌, map, length, decimal, Result, OnOk, slice_index, slice_index_or}
 use Rattle.std.specs.Borrow.{Bor}
 use Rattle.std.specs.Fmt.{signed_decimal}
+use Rattle.std.specs.List.{flat_map}
 use Rattle.measure.specs.declared.Amount.{Amount}
 
 -- a call that answers r adds the bytes, unless memory ran out
 abbrev pub Adds : {E : Type 0} → List ℕ → List ℕ → Result (Unit {0}) E → List ℕ → Type 0
 Adds before bytes r after = OnOk r (after ≡ before ++ bytes)
 
--- each part after a space, and byte 10 at the end
-abbrev pub ended : List (List ℕ) → List ℕ
-ended [] = 10 ∷ []
-ended (part ∷ parts) = 32 ∷ (part ++ ended parts)
+-- parts, each after a space
+abbrev pub spaced : List (List ℕ) → List ℕ
+spaced parts = flat_map (λ part. 32 ∷ part) parts
 
 -- parts with one space between them, ended by byte 10
 abbrev pub line : List ℕ → List (List ℕ) → List ℕ
-line first others = first ++ ended others
+line first others = first ++ (spaced others ++ 10 ∷ [])
 
 -- the bytes of `contradiction`
 abbrev pub contradiction_word : List ℕ

@@ -2,80 +2,27 @@
 
 #![tactic(auto)]
 
-ghost use Rattle.std.specs.Prelude.{◌∷◌, ◌++◌, map, length};
-ghost use Rattle.std.specs.Fmt.{signed_decimal};
-ghost use Rattle.depth_text.specs.Lines.{Adds, Named, line, row_line, contradiction_line, refused_line, name_in};
+ghost use Rattle.std.specs.Prelude.{length};
+ghost use Rattle.depth_text.specs.Lines.{Adds, Named, row_line, contradiction_line, refused_line, name_in};
 
 use measure::Amount;
-use std::alloc::{AllocError, Global};
-
-fn add(out: &mut Vec<u8>, bytes: &[u8]) -> Result<(), AllocError>
-    ensures { Adds out.old.items bytes.now result out.new.items }
-{
-    out.extend_from_slice(bytes)
-}
-
-// Adds a space and the bytes.
-fn add_spaced(out: &mut Vec<u8>, bytes: &[u8]) -> Result<(), AllocError>
-    ensures { Adds out.old.items (32 ∷ bytes.now) result out.new.items }
-{
-    add(out, b" ")?;
-    add(out, bytes)
-}
-
-// Adds both numbers, each after a space.
-fn add_numbers(out: &mut Vec<u8>, heap: Global, mm: i64, marks: i32) -> Result<(), AllocError>
-    ensures { Adds out.old.items (32 ∷ (signed_decimal mm ++ 32 ∷ signed_decimal marks)) result out.new.items }
-{
-    let text = format!(in heap; " {mm} {marks}")?;
-    add(out, text.as_bytes())
-}
-
-// Adds a line: a word, both numbers, and another word.
-fn add_numbered(
-    out: &mut Vec<u8>,
-    heap: Global,
-    first: &[u8],
-    mm: i64,
-    marks: i32,
-    last: &[u8],
-) -> Result<(), AllocError>
-    ensures { Adds out.old.items (row_line first.now (record { mm = mm; marks = marks }) last.now) result out.new.items }
-{
-    add(out, first)?;
-    add_numbers(out, heap, mm, marks)?;
-    add_spaced(out, last)?;
-    add(out, b"\n")
-}
+use std::alloc::AllocError;
 
 /// Adds a marker's line: its name, its depth's millimetres and marks, and its parent's name.
 pub fn add_row(
     out: &mut Vec<u8>,
-    heap: Global,
     name: &[u8],
     depth: Amount,
     parent: &[u8],
 ) -> Result<(), AllocError>
     ensures { Adds out.old.items (row_line name.now depth parent.now) result out.new.items }
 {
-    add_numbered(out, heap, name, depth.mm, depth.marks, parent)
-}
-
-// Adds a line: a word, and the names of the markers.
-fn add_named(
-    out: &mut Vec<u8>,
-    word: &[u8],
-    names: &[&[u8]],
-    markers: &[u16],
-) -> Result<(), AllocError>
-    requires { Named names.now markers.now (length markers.now) }
-    ensures { Adds out.old.items (line word.now (map (name_in names.now) markers.now)) result out.new.items }
-{
-    add(out, word)?;
-    for &marker in markers {
-        add_spaced(out, names[marker as usize])?;
-    }
-    add(out, b"\n")
+    let Amount { mm, marks } = depth;
+    let numbers = format!(in *out.allocator(); " {mm} {marks} ")?;
+    out.extend_from_slice(name)?;
+    out.extend_from_slice(numbers.as_bytes())?;
+    out.extend_from_slice(parent)?;
+    out.extend_from_slice(b"\n")
 }
 
 /// Adds the line of a contradiction: the names of the cycle's markers.
@@ -87,13 +34,18 @@ pub fn add_contradiction(
     requires { Named names.now cycle.now (length cycle.now) }
     ensures { Adds out.old.items (contradiction_line (name_in names.now) cycle.now) result out.new.items }
 {
-    add_named(out, b"contradiction", names, cycle)
+    out.extend_from_slice(b"contradiction")?;
+    for &marker in cycle {
+        out.extend_from_slice(b" ")?;
+        out.extend_from_slice(names[marker as usize])?;
+    }
+    out.extend_from_slice(b"\n")
 }
 
 /// Adds the line of a refusal: its code, and the place in the text.
-pub fn add_refused(out: &mut Vec<u8>, heap: Global, code: u8, place: u32) -> Result<(), AllocError>
+pub fn add_refused(out: &mut Vec<u8>, code: u8, place: u32) -> Result<(), AllocError>
     ensures { Adds out.old.items (refused_line code place) result out.new.items }
 {
-    let text = format!(in heap; "refused {code} {place}\n")?;
-    add(out, text.as_bytes())
+    let line = format!(in *out.allocator(); "refused {code} {place}\n")?;
+    out.extend_from_slice(line.as_bytes())
 }

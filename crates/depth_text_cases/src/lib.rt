@@ -16,7 +16,6 @@ mod tests {
         let mut out = Vec::new(heap);
         add_row(
             &mut out,
-            heap,
             b"!",
             Amount {
                 mm: -5_120_000_000,
@@ -34,8 +33,8 @@ mod tests {
         let mut out = Vec::new(heap);
         add_contradiction(&mut out, &NAMES, &[2, 1])?;
         add_contradiction(&mut out, &NAMES, &[])?;
-        add_refused(&mut out, heap, 5, 0)?;
-        add_refused(&mut out, heap, 255, 65_536)?;
+        add_refused(&mut out, 5, 0)?;
+        add_refused(&mut out, 255, 65_536)?;
         assert_eq!(rt;
             out.as_slice(),
             b"contradiction base top\ncontradiction\nrefused 5 0\nrefused 255 65536\n".as_slice()

@@ -42,11 +42,11 @@ fn answer_in<'a>(
                 mm: state.total_depth,
                 marks: 0,
             };
-            let solved = add_answer(&mut bytes, heap, &state.names, list, StrictDepth, total)?;
+            let solved = add_answer(&mut bytes, &state.names, list, StrictDepth, total)?;
             Ok(Report { bytes, solved })
         }
         Err(fault) => {
-            add_refused(&mut bytes, heap, fault.code.number(), fault.place)?;
+            add_refused(&mut bytes, fault.code.number(), fault.place)?;
             Ok(Report {
                 bytes,
                 solved: false,

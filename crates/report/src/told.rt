@@ -14,13 +14,12 @@ use law::Refusal;
 use measure::{Amount, Measure};
 use sheet_text::names::Names;
 use solver::Solver;
-use std::alloc::{AllocError, Global};
+use std::alloc::AllocError;
 use store::TieStore;
 
 // Adds a line for each of the first `n` markers.
 fn add_rows<S: TieStore, M: Measure>(
     out: &mut Vec<u8>,
-    heap: Global,
     names: &Names<'_>,
     solver: &Solver<S, M>,
     n: u16,
@@ -32,7 +31,7 @@ fn add_rows<S: TieStore, M: Measure>(
 {
     for m in 0..n {
         match solver.depth(m) {
-            Ok(row) => add_row(out, heap, names.name(m), row.depth, names.name(row.parent))?,
+            Ok(row) => add_row(out, names.name(m), row.depth, names.name(row.parent))?,
             Err(_why) => {}
         }
     }
@@ -42,7 +41,6 @@ fn add_rows<S: TieStore, M: Measure>(
 // Adds the line of a refusal, or of a contradiction, whose cycle stands at the front of `cycle`.
 fn add_refusal(
     out: &mut Vec<u8>,
-    heap: Global,
     names: &Names<'_>,
     why: Refusal,
     cycle: &[u16; 64],
@@ -52,14 +50,13 @@ fn add_refusal(
 {
     match why.cycle_length() {
         Some(length) => add_contradiction(out, names.as_slice(), &cycle[0..length as usize]),
-        None => add_refused(out, heap, why.code(), 0),
+        None => add_refused(out, why.code(), 0),
     }
 }
 
 // Opens a solver over the store, and adds what it tells, with a buffer for the cycle of a contradiction.
 fn add_opened<S: TieStore + Drop, M: Measure + Drop>(
     out: &mut Vec<u8>,
-    heap: Global,
     names: &Names<'_>,
     store: S,
     measure: M,
@@ -73,11 +70,11 @@ fn add_opened<S: TieStore + Drop, M: Measure + Drop>(
     let mut solver = Solver::new(store, measure, total_depth, 0);
     match solver.open(cycle) {
         Ok(n) => {
-            add_rows(out, heap, names, &solver, n)?;
+            add_rows(out, names, &solver, n)?;
             Ok(true)
         }
         Err(why) => {
-            add_refusal(out, heap, names, why, cycle)?;
+            add_refusal(out, names, why, cycle)?;
             Ok(false)
         }
     }
@@ -87,7 +84,6 @@ fn add_opened<S: TieStore + Drop, M: Measure + Drop>(
 /// are depths.
 pub fn add_answer<S: TieStore + Drop, M: Measure + Drop>(
     out: &mut Vec<u8>,
-    heap: Global,
     names: &Names<'_>,
     store: S,
     measure: M,
@@ -98,5 +94,5 @@ pub fn add_answer<S: TieStore + Drop, M: Measure + Drop>(
     ensures { AddsTold M.Measure total_depth (S.TieStore.meaning store) (λ m. slice_index_or (names_of names.now) m []) out.old.items out.new.items result }
 {
     let mut cycle = [0u16; 64];
-    add_opened(out, heap, names, store, measure, total_depth, &mut cycle)
+    add_opened(out, names, store, measure, total_depth, &mut cycle)
 }

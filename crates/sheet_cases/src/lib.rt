@@ -10,117 +10,117 @@ mod tests {
     use std::test::Fail;
     use store::TieRecord;
 
-    // Texts, each with the number and place of its fault; 0 and 0 where it has none.
-    const CASES: [(&[u8], u8, u32); 69] = [
+    // Texts, each with the number and place of its fault, if it has one.
+    const CASES: [(&[u8], Option<(u8, u32)>); 69] = [
         // the whole text
-        (b"", 21, 0),
-        (b"Z", 21, 0),
-        (b"\n", 21, 0),
-        (b"Z\n", 22, 0),
-        (b"H 3\nM a\nM b\nZ 12 0", 21, 0),
-        (b"H 3\nM a\nM b\nZ 12 0\n", 0, 0),
-        (b"H 3\nM a\nM b\nT a b 1\n", 21, 0),
-        (b"H 3\nM a\nM b\nZ 12 0\n\n", 21, 0),
-        (b"H 3\nM a\nM b\nZ 12 0\nM c\n", 21, 0),
-        (b"H x\nM a\nM b\nT a b 1\n", 21, 0),
+        (b"", Some((21, 0))),
+        (b"Z", Some((21, 0))),
+        (b"\n", Some((21, 0))),
+        (b"Z\n", Some((22, 0))),
+        (b"H 3\nM a\nM b\nZ 12 0", Some((21, 0))),
+        (b"H 3\nM a\nM b\nZ 12 0\n", None),
+        (b"H 3\nM a\nM b\nT a b 1\n", Some((21, 0))),
+        (b"H 3\nM a\nM b\nZ 12 0\n\n", Some((21, 0))),
+        (b"H 3\nM a\nM b\nZ 12 0\nM c\n", Some((21, 0))),
+        (b"H x\nM a\nM b\nT a b 1\n", Some((21, 0))),
         // the total depth
-        (b"H 20000000\nM a\nM b\nZ 19 0\n", 0, 0),
-        (b"H 20000001\nM a\nM b\nZ 19 0\n", 22, 0),
-        (b"H -20000000\nM a\nM b\nZ 20 0\n", 0, 0),
-        (b"H -20000001\nM a\nM b\nZ 20 0\n", 22, 0),
-        (b"H 0\nM a\nM b\nZ 12 0\n", 0, 0),
-        (b"H -0\nM a\nM b\nZ 13 0\n", 22, 0),
-        (b"H 03\nM a\nM b\nZ 13 0\n", 22, 0),
-        (b"H +3\nM a\nM b\nZ 13 0\n", 22, 0),
-        (b"H  3\nM a\nM b\nZ 13 0\n", 22, 0),
-        (b"H 3 \nM a\nM b\nZ 13 0\n", 22, 0),
-        (b"H 3\r\nM a\nM b\nZ 13 0\n", 22, 0),
-        (b"H\nM a\nM b\nZ 10 0\n", 22, 0),
-        (b"h 3\nM a\nM b\nZ 12 0\n", 22, 0),
+        (b"H 20000000\nM a\nM b\nZ 19 0\n", None),
+        (b"H 20000001\nM a\nM b\nZ 19 0\n", Some((22, 0))),
+        (b"H -20000000\nM a\nM b\nZ 20 0\n", None),
+        (b"H -20000001\nM a\nM b\nZ 20 0\n", Some((22, 0))),
+        (b"H 0\nM a\nM b\nZ 12 0\n", None),
+        (b"H -0\nM a\nM b\nZ 13 0\n", Some((22, 0))),
+        (b"H 03\nM a\nM b\nZ 13 0\n", Some((22, 0))),
+        (b"H +3\nM a\nM b\nZ 13 0\n", Some((22, 0))),
+        (b"H  3\nM a\nM b\nZ 13 0\n", Some((22, 0))),
+        (b"H 3 \nM a\nM b\nZ 13 0\n", Some((22, 0))),
+        (b"H 3\r\nM a\nM b\nZ 13 0\n", Some((22, 0))),
+        (b"H\nM a\nM b\nZ 10 0\n", Some((22, 0))),
+        (b"h 3\nM a\nM b\nZ 12 0\n", Some((22, 0))),
         // the order of lines
-        (b"M a\nM b\nZ 8 0\n", 22, 0),
-        (b"T a b 1\nZ 0 1\n", 22, 0),
-        (b"Z 0 0\n", 22, 0),
-        (b"H 3\nH 3\nM a\nM b\nZ 16 0\n", 22, 4),
-        (b"H 3\nM a\nH 3\nM b\nZ 16 0\n", 22, 8),
-        (b"H 3\nM a\nM b\nT a b 1\nM c\nZ 12 1\n", 22, 20),
-        (b"H 3\nM a\nM b\nZ 12 0\nZ 12 0\n", 22, 19),
-        (b"H 3\nM a\nM b\nZ 12 0\nT a b 1\nZ 12 1\n", 22, 19),
-        (b"H 3\nM a\n\nM b\nZ 13 0\n", 22, 8),
+        (b"M a\nM b\nZ 8 0\n", Some((22, 0))),
+        (b"T a b 1\nZ 0 1\n", Some((22, 0))),
+        (b"Z 0 0\n", Some((22, 0))),
+        (b"H 3\nH 3\nM a\nM b\nZ 16 0\n", Some((22, 4))),
+        (b"H 3\nM a\nH 3\nM b\nZ 16 0\n", Some((22, 8))),
+        (b"H 3\nM a\nM b\nT a b 1\nM c\nZ 12 1\n", Some((22, 20))),
+        (b"H 3\nM a\nM b\nZ 12 0\nZ 12 0\n", Some((22, 19))),
+        (b"H 3\nM a\nM b\nZ 12 0\nT a b 1\nZ 12 1\n", Some((22, 19))),
+        (b"H 3\nM a\n\nM b\nZ 13 0\n", Some((22, 8))),
         // names
-        (b"H 3\nM 1234567890123456\nM b\nZ 27 0\n", 0, 0),
-        (b"H 3\nM 12345678901234567\nM b\nZ 28 0\n", 22, 4),
-        (b"H 3\nM !\nM ~\nZ 12 0\n", 0, 0),
-        (b"H 3\nM \x7f\nM b\nZ 12 0\n", 22, 4),
-        (b"H 3\nM a\nM \nZ 11 0\n", 22, 8),
-        (b"H 3\nM a\nM b c\nZ 14 0\n", 22, 8),
-        (b"H 3\nM a\nM a\nZ 12 0\n", 23, 8),
-        (b"H 3\nM a\nM A\nZ 12 0\n", 0, 0),
+        (b"H 3\nM 1234567890123456\nM b\nZ 27 0\n", None),
+        (b"H 3\nM 12345678901234567\nM b\nZ 28 0\n", Some((22, 4))),
+        (b"H 3\nM !\nM ~\nZ 12 0\n", None),
+        (b"H 3\nM \x7f\nM b\nZ 12 0\n", Some((22, 4))),
+        (b"H 3\nM a\nM \nZ 11 0\n", Some((22, 8))),
+        (b"H 3\nM a\nM b c\nZ 14 0\n", Some((22, 8))),
+        (b"H 3\nM a\nM a\nZ 12 0\n", Some((23, 8))),
+        (b"H 3\nM a\nM A\nZ 12 0\n", None),
         // the number of markers
-        (b"H 3\nZ 4 0\n", 24, 4),
-        (b"H 3\nM a\nZ 8 0\n", 24, 8),
-        (b"H 3\nM a\nZ 9 9\n", 24, 8),
-        (b"H 3\nM a\nT a c 1\nZ 8 1\n", 24, 8),
-        (b"H 3\nM a\nT a a 01\nZ 8 1\n", 22, 8),
+        (b"H 3\nZ 4 0\n", Some((24, 4))),
+        (b"H 3\nM a\nZ 8 0\n", Some((24, 8))),
+        (b"H 3\nM a\nZ 9 9\n", Some((24, 8))),
+        (b"H 3\nM a\nT a c 1\nZ 8 1\n", Some((24, 8))),
+        (b"H 3\nM a\nT a a 01\nZ 8 1\n", Some((22, 8))),
         // ties
-        (b"H 3\nM a\nM b\nT a b -1 <\nT b a 0\nZ 12 2\n", 0, 0),
-        (b"H 3\nM a\nM b\nT a b -20000000\nZ 12 1\n", 0, 0),
-        (b"H 3\nM a\nM b\nT a b -20000001\nZ 12 1\n", 22, 12),
-        (b"H 3\nM a\nM b\nT a b 20000000\nZ 12 1\n", 0, 0),
-        (b"H 3\nM a\nM b\nT a b 20000001\nZ 12 1\n", 22, 12),
-        (b"H 3\nM a\nM b\nT a b 1 >\nZ 12 1\n", 22, 12),
-        (b"H 3\nM a\nM b\nT a b 1 < \nZ 12 1\n", 22, 12),
-        (b"H 3\nM a\nM b\nT a b\nZ 12 1\n", 22, 12),
-        (b"H 3\nM a\nM b\nT a c 1\nZ 12 1\n", 23, 12),
-        (b"H 3\nM a\nM b\nT c b 1\nZ 12 1\n", 23, 12),
-        (b"H 3\nM a\nM b\nT c c 1\nZ 12 1\n", 23, 12),
-        (b"H 3\nM a\nM b\nT a a 1\nZ 12 1\n", 5, 12),
-        (b"H 3\nM a\nM b\nT a b 1\nT a b 2\nZ 12 2\n", 23, 20),
+        (b"H 3\nM a\nM b\nT a b -1 <\nT b a 0\nZ 12 2\n", None),
+        (b"H 3\nM a\nM b\nT a b -20000000\nZ 12 1\n", None),
+        (b"H 3\nM a\nM b\nT a b -20000001\nZ 12 1\n", Some((22, 12))),
+        (b"H 3\nM a\nM b\nT a b 20000000\nZ 12 1\n", None),
+        (b"H 3\nM a\nM b\nT a b 20000001\nZ 12 1\n", Some((22, 12))),
+        (b"H 3\nM a\nM b\nT a b 1 >\nZ 12 1\n", Some((22, 12))),
+        (b"H 3\nM a\nM b\nT a b 1 < \nZ 12 1\n", Some((22, 12))),
+        (b"H 3\nM a\nM b\nT a b\nZ 12 1\n", Some((22, 12))),
+        (b"H 3\nM a\nM b\nT a c 1\nZ 12 1\n", Some((23, 12))),
+        (b"H 3\nM a\nM b\nT c b 1\nZ 12 1\n", Some((23, 12))),
+        (b"H 3\nM a\nM b\nT c c 1\nZ 12 1\n", Some((23, 12))),
+        (b"H 3\nM a\nM b\nT a a 1\nZ 12 1\n", Some((5, 12))),
+        (b"H 3\nM a\nM b\nT a b 1\nT a b 2\nZ 12 2\n", Some((23, 20))),
         (
             b"H 3\nM a\nM b\nT a b 1\nT b a 2\nT b b 2\nT x y 0\nZ 1 1\n",
-            5,
-            28,
+            Some((5, 28)),
         ),
         // the trailer
-        (b"H 3\nM a\nM b\nT a b 1\nZ 12 1\n", 0, 0),
-        (b"H 3\nM a\nM b\nT a b 1\nZ 20 1\n", 25, 20),
-        (b"H 3\nM a\nM b\nT a b 1\nZ 12 0\n", 25, 20),
-        (b"H 3\nM a\nM b\nZ 11 0\n", 25, 12),
-        (b"H 3\nM a\nM b\nZ 012 0\n", 22, 12),
-        (b"H 3\nM a\nM b\nZ 12\n", 22, 12),
-        (b"H 3\nM a\nM b\nZ 12 -0\n", 22, 12),
-        (b"H 3\nM a\nM b\nZ 4294967308 0\n", 25, 12),
-        (b"H 3\nM a\nM b\nZ 18446744073709551628 0\n", 25, 12),
-        (b"H 3\nM a\nM b\nZ 12 99999999999999999999999999\n", 25, 12),
+        (b"H 3\nM a\nM b\nT a b 1\nZ 12 1\n", None),
+        (b"H 3\nM a\nM b\nT a b 1\nZ 20 1\n", Some((25, 20))),
+        (b"H 3\nM a\nM b\nT a b 1\nZ 12 0\n", Some((25, 20))),
+        (b"H 3\nM a\nM b\nZ 11 0\n", Some((25, 12))),
+        (b"H 3\nM a\nM b\nZ 012 0\n", Some((22, 12))),
+        (b"H 3\nM a\nM b\nZ 12\n", Some((22, 12))),
+        (b"H 3\nM a\nM b\nZ 12 -0\n", Some((22, 12))),
+        (b"H 3\nM a\nM b\nZ 4294967308 0\n", Some((25, 12))),
+        (b"H 3\nM a\nM b\nZ 18446744073709551628 0\n", Some((25, 12))),
+        (
+            b"H 3\nM a\nM b\nZ 12 99999999999999999999999999\n",
+            Some((25, 12)),
+        ),
     ];
 
     fn told(fault: Fault) -> (u8, u32) {
         (fault.code.number(), fault.place)
     }
 
-    fn checked(text: &[u8]) -> (u8, u32) {
-        match check(text) {
-            Ok(_) => (0, 0),
-            Err(fault) => told(fault),
-        }
+    fn checked(text: &[u8]) -> Option<(u8, u32)> {
+        check(text).err().map(told)
     }
 
-    fn made_in<'a>(text: &'a [u8], state: &mut State<'a>, records: &mut [TieRecord]) -> (u8, u32) {
-        match make(text, state, records) {
-            Ok(_) => (0, 0),
-            Err(fault) => told(fault),
-        }
+    fn made_in<'a>(
+        text: &'a [u8],
+        state: &mut State<'a>,
+        records: &mut [TieRecord],
+    ) -> Option<(u8, u32)> {
+        make(text, state, records).err().map(told)
     }
 
-    fn made(text: &[u8], records: &mut [TieRecord]) -> (u8, u32) {
+    fn made(text: &[u8], records: &mut [TieRecord]) -> Option<(u8, u32)> {
         let mut state = State::new();
         made_in(text, &mut state, records)
     }
 
     #[test]
     fn cases(rt: HostRuntime) {
-        for (text, code, place) in CASES {
-            assert_eq!(rt; checked(text), (code, place));
+        for (text, fault) in CASES {
+            assert_eq!(rt; checked(text), fault);
         }
     }
 
@@ -167,11 +167,14 @@ mod tests {
         let heap = rt.alloc();
         let longest = large(heap, 64, 1692, 100)?;
         assert_eq!(rt; longest.len(), 65_536);
-        assert_eq!(rt; checked(longest.as_slice()), (0, 0));
+        assert_eq!(rt; checked(longest.as_slice()), None);
         let longer = large(heap, 64, 1692, 1000)?;
         assert_eq!(rt; longer.len(), 65_537);
-        assert_eq!(rt; checked(longer.as_slice()), (21, 0));
-        assert_eq!(rt; checked(large(heap, 65, 0, 1)?.as_slice()), (24, 1226));
+        assert_eq!(rt; checked(longer.as_slice()), Some((21, 0)));
+        assert_eq!(rt;
+            checked(large(heap, 65, 0, 1)?.as_slice()),
+            Some((24, 1226))
+        );
         Ok(())
     }
 
@@ -180,11 +183,11 @@ mod tests {
         let heap = rt.alloc();
         let mut records = [NO_TIE; 256];
         let over = large(heap, 64, 257, 1)?;
-        assert_eq!(rt; made(over.as_slice(), &mut records), (10, 10_954));
+        assert_eq!(rt; made(over.as_slice(), &mut records), Some((10, 10_954)));
         assert_eq!(rt; records[0], NO_TIE);
         assert_eq!(rt; records[255], NO_TIE);
         let full = large(heap, 64, 256, 1)?;
-        assert_eq!(rt; made(full.as_slice(), &mut records), (0, 0));
+        assert_eq!(rt; made(full.as_slice(), &mut records), None);
         assert_eq!(rt;
             records[255],
             TieRecord {
@@ -200,7 +203,7 @@ mod tests {
     fn records(rt: HostRuntime) {
         let small = b"H 3\nM a\nM b\nT a b -7 <\nZ 12 1\n";
         let mut most = [NO_TIE; 4096];
-        assert_eq!(rt; made(small, &mut most), (0, 0));
+        assert_eq!(rt; made(small, &mut most), None);
         assert_eq!(rt;
             most[0],
             TieRecord {
@@ -211,10 +214,10 @@ mod tests {
         );
         assert_eq!(rt; most[1], NO_TIE);
         let mut more = [NO_TIE; 4097];
-        assert_eq!(rt; made(small, &mut more), (14, 0));
-        assert_eq!(rt; made(b"Z", &mut more), (14, 0));
+        assert_eq!(rt; made(small, &mut more), Some((14, 0)));
+        assert_eq!(rt; made(b"Z", &mut more), Some((14, 0)));
         assert_eq!(rt; more[0], NO_TIE);
-        assert_eq!(rt; made(small, &mut []), (10, 12));
+        assert_eq!(rt; made(small, &mut []), Some((10, 12)));
     }
 
     #[test]
@@ -230,7 +233,7 @@ mod tests {
         }
         let mut state = State::new();
         let mut list = [NO_TIE; 2];
-        assert_eq!(rt; made_in(text, &mut state, &mut list), (0, 0));
+        assert_eq!(rt; made_in(text, &mut state, &mut list), None);
         assert_eq!(rt; state.total_depth, 3_000_000);
         assert_eq!(rt; state.names.len(), 3);
         assert_eq!(rt; state.names.name(2), b"base".as_slice());
