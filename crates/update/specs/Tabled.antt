@@ -1,4 +1,4 @@
--- A graph and the table from before one of its weights changed. Assumes nothing.
+-- A graph and a table of its markers. Assumes nothing.
 use Rattle.std.specs.Prelude.{◌≡◌}
 use Rattle.measure.specs.declared.Measure as measure
 use Rattle.graph.specs.declared.Graph as graph

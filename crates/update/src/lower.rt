@@ -14,25 +14,6 @@ use measure::{Amount, Measure};
 use table::{DepthTable, Row};
 
 impl<'a, G: Graph, M: Measure> Update<'a, G, M> {
-    // The old depth of a marker.
-    fn depth(&self, m: u16) -> Amount
-        requires { m < self.now.table.n }
-        ensures is { result ≡ deep self.now.table.rows m }
-        ensures small { M.within 63 result }
-    {
-        self.table.depth(m)
-    }
-
-    // The depth that the edge from a, of weight w, allows b.
-    fn allowed(&self, a: u16, b: u16, w: Amount) -> Amount
-        requires start { a < self.now.table.n }
-        requires edge { G.Graph.weight self.now.graph a b ≡ Some w }
-        ensures is { M.value result ≡ M.group.plus (depth M.Measure self.now.table.rows a) (M.value w) }
-        ensures small { M.within 64 result }
-    {
-        self.measure.sum(self.depth(a), w)
-    }
-
     // Whether the depth of y has not fallen.
     fn stays(&self, work: &Work, y: u16) -> bool
         requires marker { y < self.now.table.n }

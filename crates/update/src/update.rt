@@ -1,8 +1,8 @@
-ghost use Rattle.std.specs.Prelude.{◌≡◌, ℕ, ◌+◌, ◌<◌, true, false, replicate, slice_set};
+ghost use Rattle.std.specs.Prelude.{◌≡◌, ℕ, ◌+◌, ◌<◌, Some, false, replicate};
 ghost use Rattle.graph.proofs.Relabel.{Settles};
 ghost use Rattle.graph.specs.Theorems.{Solved};
 ghost use Rattle.graph.specs.Weights.{Usable, weights};
-ghost use Rattle.table.specs.Climb.{up as parents_of};
+ghost use Rattle.table.specs.Climb.{deep, up as parents_of};
 ghost use Rattle.update.specs.Reading.{Deep, depth, flag};
 ghost use Rattle.update.specs.Nearest.{Best};
 ghost use Rattle.update.specs.Relaxing.{Relaxation};
@@ -13,7 +13,7 @@ use crate::Work;
 use crate::nearest::nearest;
 use crate::relax::relax_from;
 use graph::Graph;
-use measure::Measure;
+use measure::{Amount, Measure};
 use std::marker::Model;
 use table::{DepthTable, Row};
 
@@ -51,7 +51,26 @@ impl<'a, G: Graph, M: Measure> Update<'a, G, M> {
         }
     }
 
-    /// The old depths and parents, and no marker that is done.
+    // The depth of a marker.
+    pub(crate) fn depth(&self, m: u16) -> Amount
+        requires { m < self.now.table.n }
+        ensures is { result ≡ deep self.now.table.rows m }
+        ensures small { M.within 63 result }
+    {
+        self.table.depth(m)
+    }
+
+    // The depth that the edge from a, of weight w, allows b.
+    pub(crate) fn allowed(&self, a: u16, b: u16, w: Amount) -> Amount
+        requires start { a < self.now.table.n }
+        requires edge { G.Graph.weight self.now.graph a b ≡ Some w }
+        ensures is { M.value result ≡ M.group.plus (depth M.Measure self.now.table.rows a) (M.value w) }
+        ensures small { M.within 64 result }
+    {
+        self.measure.sum(self.depth(a), w)
+    }
+
+    /// The depths and parents of the table, and no marker that is done.
     pub fn start(&self) -> Work
         ensures { result ≡ record { rows = self.now.table.rows; done = replicate 64 false } }
     {
@@ -87,7 +106,8 @@ impl<'a, G: Graph, M: Measure> Update<'a, G, M> {
     pub fn solved(&self, rows: [Row; 64]) -> DepthTable
         requires sizes { Deep M.Measure self.now.table.n 128 rows }
         requires solved { Solved M.Measure.group self.now.table.n (weights G.Graph M.Measure self.now.graph) (depth M.Measure rows) (parents_of rows) }
-        ensures { Solution M.Measure self.now.table.n (weights G.Graph M.Measure self.now.graph) result }
+        ensures rows { result.rows ≡ rows }
+        ensures solution { Solution M.Measure self.now.table.n (weights G.Graph M.Measure self.now.graph) result }
     {
         DepthTable::of(self.table.n(), rows)
     }

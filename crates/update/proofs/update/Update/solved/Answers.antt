@@ -12,8 +12,8 @@ of-requires-clause-tree g c =
     let few : c.n.result ≡ c.args.self.now.table.n = c.n.ensures ∙ ap (λ (b : Tabled _). b.table.n) c.self.view_is in
     rw few c.requires.solved.tree
 
-pub returns : goal.returns
-returns g c =
+pub returns-clause-solution : goal.returns-clause-solution
+returns-clause-solution g c =
     let m = g.M.Measure in
     let u = c.args.self.now in
     let ready = subst (Ready g.G.Graph m) c.self.view_is c.self.invariant in
