@@ -1,4 +1,4 @@
-ghost use Rattle.std.specs.Prelude.{◌≡◌, ℕ, ◌+◌, ◌<◌, Some, false, replicate};
+ghost use Rattle.std.specs.Prelude.{◌≡◌, ℕ, ◌+◌, ◌<◌, ◌≤◌, Some, true, false, replicate};
 ghost use Rattle.graph.proofs.Relabel.{Settles};
 ghost use Rattle.graph.specs.Theorems.{Solved};
 ghost use Rattle.graph.specs.Weights.{Usable, weights};
@@ -88,6 +88,18 @@ impl<'a, G: Graph, M: Measure> Update<'a, G, M> {
         nearest(self.measure, self.table, work)
     }
 
+    /// Lowers each marker that is not done by its edge from y, or says which marker of `up` would be lowered.
+    pub fn relax(&self, up: &[bool; 64], work: &mut Work, y: u16) -> Result<(), u16>
+        requires marker { y < self.now.table.n }
+        requires done { flag work.old.done y ≡ true }
+        requires sizes { Deep M.Measure self.now.table.n 255 work.old.rows }
+        ensures relaxed { Relaxation M.Measure.group self.now.table.n (weights G.Graph M.Measure self.now.graph) (flag work.old.done) (flag up.now) (depth M.Measure work.old.rows) (parents_of work.old.rows) y (depth M.Measure work.new.rows) (parents_of work.new.rows) result }
+        ensures done { work.new.done ≡ work.old.done }
+        ensures sizes { (k : ℕ) → k ≤ 255 → M.within k (deep work.old.rows y) → Deep M.Measure self.now.table.n (k + 1) work.old.rows → Deep M.Measure self.now.table.n (k + 1) work.new.rows }
+    {
+        relax_from(self.graph, self.measure, up, work, y)
+    }
+
     /// Makes the depth of y final, and lowers the others by their edges from y; or says which marker of `up` would be lowered.
     pub fn settle(&self, up: &[bool; 64], work: &mut Work, y: u16) -> Result<(), u16>
         requires marker { y < self.now.table.n }
@@ -99,7 +111,7 @@ impl<'a, G: Graph, M: Measure> Update<'a, G, M> {
         ensures room { Room M.Measure self.now.table.n work.new }
     {
         work.done[y as usize] = true;
-        relax_from(self.graph, self.measure, up, work, y)
+        self.relax(up, work, y)
     }
 
     /// The table of rows that solve the graph.
