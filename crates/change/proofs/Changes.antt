@@ -1,5 +1,5 @@
 -- What a change of one weight does to all of them, and when it contradicts nothing. Assumes nothing.
-use Rattle.std.proofs.Common.{◌≡◌, ℕ, ◌<◌, List, ◌∷◌, Some, None, Option, sym, refl, ap, ◌∙◌, subst, arith}
+use Rattle.std.proofs.Common.{◌≡◌, ℕ, ◌<◌, List, ◌∷◌, Some, None, Ok, Err, Option, Result, sym, refl, ap, ◌∙◌, subst, arith}
 use native.Mathlib.Decide.{ℕ_discrete}
 use Rattle.measure.specs.declared.Amount.{Amount}
 use Rattle.measure.specs.declared.Measure as measure
@@ -14,8 +14,8 @@ use Rattle.graph.proofs.Valued.{amount_of}
 use Rattle.graph.proofs.Walks.{negative_cycle_refutes}
 use Rattle.table.specs.declared.row.Row.{Row}
 use Rattle.table.specs.Climb.{up as parents_of}
-use Rattle.update.specs.declared.work.Lowering.{Lowering}
-use Rattle.update.specs.declared.work.Lowering.TheVariants.{Same, Moved, Contradiction}
+use Rattle.table.specs.declared.table.DepthTable.{DepthTable}
+use Rattle.update.specs.declared.work.Contradiction.{Contradiction}
 use Rattle.update.specs.Lowers.{Lowers}
 use Rattle.update.specs.Reading.{depth}
 use Rattle.update.proofs.Picks.{turned}
@@ -24,11 +24,11 @@ use Rattle.raise.proofs.Ends.{unaffected}
 use Rattle.change.specs.Changing.{ChangedAt, NoContradiction, NoLess, NoMore, weights_of}
 
 -- weights that only rise contradict nothing
-pub never_contradicts : {M : Type 0} (μ : measure.Ghosts M) (n : ℕ) (w w' : Weight μ.group) (d : ℕ → μ.group.carrier) (p : ℕ → ℕ) (a b : ℕ) (rows : List Row) (r : Lowering)
+pub never_contradicts : {M : Type 0} (μ : measure.Ghosts M) (n : ℕ) (w w' : Weight μ.group) (d : ℕ → μ.group.carrier) (p : ℕ → ℕ) (a b : ℕ) (rows : List Row) (r : Result (Option DepthTable) Contradiction)
     → Lowers μ n w' a b rows r → Solved μ.group n w d p → Raised μ.group n w w' → NoContradiction r
-never_contradicts μ n w w' d p a b rows Same now old up = tt
-never_contradicts μ n w w' d p a b rows (Moved v) now old up = tt
-never_contradicts μ n w w' d p a b rows (Contradiction v) now old up =
+never_contradicts μ n w w' d p a b rows (Ok None) now old up = tt
+never_contradicts μ n w w' d p a b rows (Ok (Some t)) now old up = tt
+never_contradicts μ n w w' d p a b rows (Err v) now old up =
     negative_cycle_refutes μ.group n w' (b ∷ way (parents_of v.rows) now.up a) now.sum now.cycle now.negative d (raised_fits μ.group n w w' d up old.fits)
 
 module _ {M : Type 0} (μ : measure.Ghosts M) where
@@ -74,5 +74,5 @@ module _ {G M : Type 0} (s : graph.Ghosts G) (μ : measure.Ghosts M) (x : G) (n 
     pub still_solved : (0 < b → ¬ (parents_of rows b ≡ a)) → Solved μ.group n (weights s μ x) (depth μ rows) (parents_of rows)
     still_solved apart = unaffected μ.group n (weights_of μ c.was) (weights s μ x) a b (depth μ rows) (parents_of rows) c.solved raised same_weight apart
 
-    pub no_contradiction : (r : Lowering) → Lowers μ n (weights s μ x) a b rows r → NoContradiction r
+    pub no_contradiction : (r : Result (Option DepthTable) Contradiction) → Lowers μ n (weights s μ x) a b rows r → NoContradiction r
     no_contradiction r now = never_contradicts μ n (weights_of μ c.was) (weights s μ x) (depth μ rows) (parents_of rows) a b rows r now c.solved raised

@@ -1,5 +1,5 @@
 -- One weight is put, replaced or taken away. Assumes nothing.
-use Rattle.std.specs.Prelude.{◌≡◌, ℕ, List, Some, None, Option}
+use Rattle.std.specs.Prelude.{◌≡◌, ℕ, List, Some, None, Ok, Err, Option, Result}
 use Rattle.measure.specs.declared.Amount.{Amount}
 use Rattle.measure.specs.declared.Measure as measure
 use Rattle.graph.specs.declared.Graph as graph
@@ -8,14 +8,13 @@ use Rattle.graph.specs.Theorems.{Solved}
 use Rattle.graph.specs.Weights.{valued}
 use Rattle.table.specs.declared.row.Row.{Row}
 use Rattle.table.specs.Climb.{up as parents_of}
-use Rattle.update.specs.declared.work.Lowering.{Lowering}
-use Rattle.update.specs.declared.work.Lowering.TheVariants.{Same, Moved, Contradiction}
+use Rattle.table.specs.declared.table.DepthTable.{DepthTable}
+use Rattle.update.specs.declared.work.Contradiction.{Contradiction}
 use Rattle.update.specs.Reading.{depth}
 
-abbrev pub NoContradiction : Lowering → Type 0
-NoContradiction Same = Unit {0}
-NoContradiction (Moved v) = Unit {0}
-NoContradiction (Contradiction v) = ⊥
+abbrev pub NoContradiction : Result (Option DepthTable) Contradiction → Type 0
+NoContradiction (Ok _) = Unit {0}
+NoContradiction (Err _) = ⊥
 
 module _ {M : Type 0} (μ : measure.Ghosts M) where
   -- the amount is no more than what was, if anything was

@@ -28,11 +28,11 @@ module _ {X : Type 0} (s : graph.Ghosts X) (x : X) (rows : List Row) (n b : ℕ)
     pub tall : length v.rows ≡ length rows
     pub wide : length v.done ≡ 64
 
-  pub part_start : (start : List Row) → start ≡ rows → Parting (record { rows = start; done = replicate 64 false }) 0
-  part_start start e = record {
+  pub part_start : Parting (record { rows = rows; done = replicate 64 false }) 0
+  part_start = record {
     each = λ u h. absurd (none u h);
-    rest = λ u h. (ap (λ r. deep r u) e, ap (λ r. parents_of r u) e, no_flag 64 u);
-    tall = ap length e;
+    rest = λ u h. (refl, refl, no_flag 64 u);
+    tall = refl;
     wide = refl;
   }
     where
@@ -116,56 +116,56 @@ module _ {X : Type 0} (s : graph.Ghosts X) (x : X) (rows : List Row) (n b : ℕ)
       by (yes o) = absurd (none (sym e ∙ ap (climb (parents_of rows) k) o ∙ climb_datum (parents_of rows) root k))
       by (no ne) = positive ne
 
-module _ {X Y : Type 0} (s : graph.Ghosts X) (m : measure.Ghosts Y) (x : X) (rows : List Row) (n b : ℕ) (v : Work) (some : 0 < b) (any : 0 < n) (same : n ≡ s.count x)
-    (risen : Risen m.group n (weights s m x) b (depth m rows) (parents_of rows)) (each : (z : ℕ) → z < n → Parted s x rows b v z) where
+module _ {X Y : Type 0} (s : graph.Ghosts X) (m : measure.Ghosts Y) (x : X) (rows : List Row) (n b : ℕ) (v : Work) (each : (z : ℕ) → z < n → Parted s x rows b v z) where
   spared_of : (z : ℕ) → z < n → flag v.done z ≡ true → Spared s x rows b v z
   spared_of z h d = ⊎_elim (λ o. not_both (flag v.done z) d o.done) (λ o. o) (each z h)
 
   hit_of : (z : ℕ) → z < n → flag v.done z ≡ false → Hit s x rows b v z
   hit_of z h d = ⊎_elim (λ o. o) (λ o. not_both (flag v.done z) o.done d) (each z h)
 
-  done_of : (z : ℕ) → z < n → ((k : ℕ) → climb (parents_of rows) k z ≡ b → ⊥) → flag v.done z ≡ true
-  done_of z h apart = ⊎_elim (λ o. absurd (apart o.passes.0 o.passes.1)) (λ o. o.done) (each z h)
+  -- the depths of both kinds are small
+  pub part_sizes : ((a b : ℕ) (w : Amount) → s.weight x a b ≡ Some w → m.within 1 w) → Deep m n 63 rows → Deep m n 64 v.rows
+  part_sizes small depths z h = ⊎_elim (λ o. wider_to m.laws.wider 1 64 _ (omega arith) (small 0 z _ o.depth)) (λ o. subst (m.within 64) (sym o.depth) (wider_to m.laws.wider 63 64 _ (omega arith) (depths z h))) (each z h)
 
-  datum_done : flag v.done 0 ≡ true
-  datum_done = done_of 0 any (λ k e. none (sym e ∙ climb_datum (parents_of rows) risen.solved.tree.root k))
-    where
-      none : b ≡ 0 → ⊥
-      none o = omega arith
+  pub part_kept : Deep m n 63 rows → (z : ℕ) → z < n → flag v.done z ≡ true → m.within 63 (deep v.rows z)
+  part_kept depths z h d = subst (m.within 63) (sym (spared_of z h d).depth) (depths z h)
 
-  pub part_rises : Rises m.group n (weights s m x) (depth m rows) (parents_of rows) (flag v.done)
-  part_rises = record {
-    fits = raised_fits m.group n risen.was (weights s m x) (depth m rows) risen.raised risen.solved.fits;
-    tree = risen.solved.tree;
-    root = datum_done;
-    up = λ z h d. done_of (parents_of rows z) (risen.solved.tree.inside z h) (λ k e. (spared_of z h d).apart (suc k) e);
-    tight = λ z pos h d. tight z d h (risen.solved.tight z pos h);
-  }
-    where
-      tight : (z : ℕ) → flag v.done z ≡ true → z < n → TightEdge m.group n risen.was (depth m rows) (parents_of rows z) z → TightEdge m.group n (weights s m x) (depth m rows) (parents_of rows z) z
-      tight z d h (c, edge, e) = (c, (edge.0, edge.1, risen.other (parents_of rows z) z (λ k. (spared_of z h d).apart 0 k) ∙ edge.2), e)
+  module _ (some : 0 < b) (any : 0 < n) (risen : Risen m.group n (weights s m x) b (depth m rows) (parents_of rows)) where
+    done_of : (z : ℕ) → z < n → ((k : ℕ) → climb (parents_of rows) k z ≡ b → ⊥) → flag v.done z ≡ true
+    done_of z h apart = ⊎_elim (λ o. absurd (apart o.passes.0 o.passes.1)) (λ o. o.done) (each z h)
 
-  pub part_gathered : Gathered m.group n (weights s m x) (depth m rows) (parents_of rows) (flag v.done) 0 (depth m v.rows) (parents_of v.rows)
-  part_gathered = record {
-    stays = λ z h d. (ap m.value (spared_of z h d).depth, (spared_of z h d).parent);
-    hangs = λ z h d. hangs z h (hit_of z h d);
-    most = λ u y c h. absurd (none u h);
-  }
-    where
-      none : (u : ℕ) → u < 0 → ⊥
-      none u h = omega arith
+    datum_done : flag v.done 0 ≡ true
+    datum_done = done_of 0 any (λ k e. none (sym e ∙ climb_datum (parents_of rows) risen.solved.tree.root k))
+      where
+        none : b ≡ 0 → ⊥
+        none o = omega arith
 
-      at_datum : depth m v.rows 0 ≡ m.group.neutral
-      at_datum = ap m.value (spared_of 0 any datum_done).depth ∙ risen.solved.fits.datum
+    pub part_rises : Rises m.group n (weights s m x) (depth m rows) (parents_of rows) (flag v.done)
+    part_rises = record {
+      fits = raised_fits m.group n risen.was (weights s m x) (depth m rows) risen.raised risen.solved.fits;
+      tree = risen.solved.tree;
+      root = datum_done;
+      up = λ z h d. done_of (parents_of rows z) (risen.solved.tree.inside z h) (λ k e. (spared_of z h d).apart (suc k) e);
+      tight = λ z pos h d. tight z d h (risen.solved.tight z pos h);
+    }
+      where
+        tight : (z : ℕ) → flag v.done z ≡ true → z < n → TightEdge m.group n risen.was (depth m rows) (parents_of rows z) z → TightEdge m.group n (weights s m x) (depth m rows) (parents_of rows z) z
+        tight z d h (c, edge, e) = (c, (edge.0, edge.1, risen.other (parents_of rows z) z (λ k. (spared_of z h d).apart 0 k) ∙ edge.2), e)
 
-      hangs : (z : ℕ) → z < n → Hit s x rows b v z → (flag v.done (parents_of v.rows z) ≡ true) × TightEdge m.group n (weights s m x) (depth m v.rows) (parents_of v.rows z) z
-      hangs z h o =
-          subst (λ u. (flag v.done u ≡ true) × TightEdge m.group n (weights s m x) (depth m v.rows) u z) (sym o.parent)
-          (datum_done, (depth m v.rows z, (any, h, ap (valued m.value) o.depth), sym (ap (λ u. m.group.plus u (depth m v.rows z)) at_datum ∙ neutral_left m.group (depth m v.rows z))))
+    pub part_gathered : Gathered m.group n (weights s m x) (depth m rows) (parents_of rows) (flag v.done) 0 (depth m v.rows) (parents_of v.rows)
+    part_gathered = record {
+      stays = λ z h d. (ap m.value (spared_of z h d).depth, (spared_of z h d).parent);
+      hangs = λ z h d. hangs z h (hit_of z h d);
+      most = λ u y c h. absurd (none u h);
+    }
+      where
+        none : (u : ℕ) → u < 0 → ⊥
+        none u h = omega arith
 
-  module _ (small : (a b : ℕ) (w : Amount) → s.weight x a b ≡ Some w → m.within 1 w) (depths : Deep m n 63 rows) where
-    pub part_sizes : Deep m n 64 v.rows
-    part_sizes z h = ⊎_elim (λ o. wider_to m.laws.wider 1 64 _ (omega arith) (small 0 z _ o.depth)) (λ o. subst (m.within 64) (sym o.depth) (wider_to m.laws.wider 63 64 _ (omega arith) (depths z h))) (each z h)
+        at_datum : depth m v.rows 0 ≡ m.group.neutral
+        at_datum = ap m.value (spared_of 0 any datum_done).depth ∙ risen.solved.fits.datum
 
-    pub part_kept : (z : ℕ) → z < n → flag v.done z ≡ true → m.within 63 (deep v.rows z)
-    part_kept z h d = subst (m.within 63) (sym (spared_of z h d).depth) (depths z h)
+        hangs : (z : ℕ) → z < n → Hit s x rows b v z → (flag v.done (parents_of v.rows z) ≡ true) × TightEdge m.group n (weights s m x) (depth m v.rows) (parents_of v.rows z) z
+        hangs z h o =
+            subst (λ u. (flag v.done u ≡ true) × TightEdge m.group n (weights s m x) (depth m v.rows) u z) (sym o.parent)
+            (datum_done, (depth m v.rows z, (any, h, ap (valued m.value) o.depth), sym (ap (λ u. m.group.plus u (depth m v.rows z)) at_datum ∙ neutral_left m.group (depth m v.rows z))))

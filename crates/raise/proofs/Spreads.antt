@@ -1,86 +1,83 @@
 -- The turns of the loops that settle all markers. Assumes nothing.
-use Rattle.std.proofs.Common.{◌≡◌, ℕ, ◌+◌, ◌<◌, ◌≤◌, Bool, true, false, List, length, set, Some, None, Option, sym, ap, ◌∙◌, subst, true≢false, arith}
-use Rattle.measure.specs.Group.{OrderedGroup}
+use Rattle.std.proofs.Common.{◌≡◌, ℕ, ◌+◌, ◌<◌, ◌≤◌, Bool, true, false, Ok, Err, Result, sym, ap, ◌∙◌, subst, true≢false, arith}
 use Rattle.measure.specs.declared.Measure as measure
+use Rattle.measure.specs.Group.{OrderedGroup}
 use Rattle.measure.proofs.Within.{wider_to}
-use Rattle.graph.specs.Graph.{Weight}
-use Rattle.graph.proofs.Relabel.{Picked}
-use Rattle.table.specs.declared.row.Row.{Row}
-use Rattle.table.specs.Climb.{deep, up as parents_of}
 use Rattle.graph.specs.declared.Graph as graph
-use Rattle.update.specs.declared.work.Work.{Work}
+use Rattle.graph.specs.Graph.{Weight}
+use Rattle.graph.specs.Theorems.{Solved}
 use Rattle.graph.specs.Weights.{weights}
+use Rattle.graph.proofs.Relabel.{Picked, Settles}
+use Rattle.table.specs.Climb.{deep, up as parents_of}
+use Rattle.update.specs.declared.work.Work.{Work}
+use Rattle.update.specs.Tabled.{Tabled}
 use Rattle.update.specs.Reading.{depth, flag}
 use Rattle.update.specs.Relaxing.{Relaxing, Relaxation}
-use Rattle.graph.specs.Theorems.{Solved}
-use Rattle.raise.specs.Raising.{Rises, Gathered, Spreading}
-use Rattle.update.proofs.Rows.{settles_set}
-use Rattle.raise.proofs.Raises.{unmoved_done, gather_step, gather_skip, spread_step, spread_end}
+use Rattle.raise.specs.Raising.{Begun, Rises, Gathered}
+use Rattle.raise.proofs.Raises.{unmoved_done, gather_step, gather_skip, spread_start, spread_step, spread_end}
 
 -- where none is fixed, all edges are relaxed
-pub whole : (g : OrderedGroup) (n : ℕ) (w : Weight g) (X U : ℕ → Bool) (L : ℕ → g.carrier) (q : ℕ → ℕ) (y : ℕ) (L' : ℕ → g.carrier) (q' : ℕ → ℕ) (r : Option ℕ)
+pub whole : {g : OrderedGroup} {n : ℕ} {w : Weight g} {X U : ℕ → Bool} {L : ℕ → g.carrier} {q : ℕ → ℕ} {y : ℕ} {L' : ℕ → g.carrier} {q' : ℕ → ℕ} (r : Result (Unit {0}) ℕ)
     → ((z : ℕ) → U z ≡ false) → Relaxation g n w X U L q y L' q' r → Relaxing g n w X U L q y n L' q'
-whole g n w X U L q y L' q' None free rel = rel
-whole g n w X U L q y L' q' (Some z) free (rel, clash) = absurd (true≢false (sym clash.fixed ∙ free z))
+whole (Ok _) free rel = rel
+whole (Err z) free (rel, clash) = absurd (true≢false (sym clash.fixed ∙ free z))
 
-module _ {X Y : Type 0} (s : graph.Ghosts X) (m : measure.Ghosts Y) (x : X) (n : ℕ) (rows : List Row) (U : List Bool) (free : (z : ℕ) → flag U z ≡ false) where
-  -- what has spread from the start is spreading
-  abbrev pub Spreads : Work → Work → Type 0
-  Spreads start now =
-      (K : ℕ → Bool) → Rises m.group n (weights s m x) (depth m rows) (parents_of rows) K
-      → Spreading m.group n (weights s m x) (depth m rows) (parents_of rows) K (flag start.done) (depth m start.rows) (parents_of start.rows)
-      → Spreading m.group n (weights s m x) (depth m rows) (parents_of rows) K (flag now.done) (depth m now.rows) (parents_of now.rows)
+module _ {G M : Type 0} (s : graph.Ghosts G) (m : measure.Ghosts M) (u : Tabled G) where
+  abbrev n : ℕ
+  n = u.table.n
 
-  abbrev pub Gathers : Work → Work → ℕ → Type 0
-  Gathers start now i =
-      Rises m.group n (weights s m x) (depth m rows) (parents_of rows) (flag start.done)
-      → Gathered m.group n (weights s m x) (depth m rows) (parents_of rows) (flag start.done) 0 (depth m start.rows) (parents_of start.rows)
-      → Gathered m.group n (weights s m x) (depth m rows) (parents_of rows) (flag start.done) i (depth m now.rows) (parents_of now.rows)
+  abbrev w : Weight m.group
+  w = weights s m u.graph
 
-  pub spread_all : (start now : Work) → Spreads start now → 0 < n → ((z : ℕ) → z < n → flag now.done z ≡ true)
-      → (K : ℕ → Bool) → Rises m.group n (weights s m x) (depth m rows) (parents_of rows) K
-      → Spreading m.group n (weights s m x) (depth m rows) (parents_of rows) K (flag start.done) (depth m start.rows) (parents_of start.rows)
-      → Solved m.group n (weights s m x) (depth m now.rows) (parents_of now.rows)
-  spread_all start now spreads some all K rises first =
-      spread_end m.group n (weights s m x) (depth m rows) (parents_of rows) K rises (flag now.done) (depth m now.rows) (parents_of now.rows) (spreads K rises first) all some
+  abbrev d : ℕ → m.group.carrier
+  d = depth m u.table.rows
 
-  module _ (same : n ≡ s.count x) (start now next : Work) (y : ℕ) (r : Option ℕ) where
-    pub spreads_next : Spreads start now → Picked m.group n (depth m rows) (flag now.done) (depth m now.rows) y → y < length now.done → next.done ≡ set now.done y true
-        → Relaxation m.group (s.count x) (weights s m x) (flag (set now.done y true)) (flag U) (depth m now.rows) (parents_of now.rows) y (depth m next.rows) (parents_of next.rows) r
-        → Spreads start next
-    spreads_next spreads pick long done rel K rises first =
-        subst (λ v. Spreading m.group n (weights s m x) (depth m rows) (parents_of rows) K (flag v) (depth m next.rows) (parents_of next.rows)) (sym done)
-        (spread_step m.group n (weights s m x) (depth m rows) (parents_of rows) K rises (flag U) (flag now.done) (flag (set now.done y true)) (depth m now.rows) (depth m next.rows)
-        (parents_of now.rows) (parents_of next.rows) y (spreads K rises first) pick (settles_set now.done y long)
-        (subst (λ k. Relaxing m.group k (weights s m x) (flag (set now.done y true)) (flag U) (depth m now.rows) (parents_of now.rows) y k (depth m next.rows) (parents_of next.rows)) (sym same)
-        (whole m.group (s.count x) (weights s m x) (flag (set now.done y true)) (flag U) (depth m now.rows) (parents_of now.rows) y (depth m next.rows) (parents_of next.rows) r free rel)))
+  abbrev p : ℕ → ℕ
+  p = parents_of u.table.rows
 
-    pub gathers_next : Gathers start now y → now.done ≡ start.done → flag now.done y ≡ true
-        → Relaxation m.group (s.count x) (weights s m x) (flag now.done) (flag U) (depth m now.rows) (parents_of now.rows) y (depth m next.rows) (parents_of next.rows) r
-        → Gathers start next (y + 1)
-    gathers_next gathers done dy rel rises first =
-        gather_step m.group n (weights s m x) (depth m rows) (parents_of rows) (flag start.done) rises (flag U) (depth m now.rows) (depth m next.rows) (parents_of now.rows) (parents_of next.rows) y
-        (gathers rises first) (sym (ap (λ v. flag v y) done) ∙ dy)
-        (subst (λ k. Relaxing m.group k (weights s m x) (flag start.done) (flag U) (depth m now.rows) (parents_of now.rows) y k (depth m next.rows) (parents_of next.rows)) (sym same)
-        (subst (λ v. Relaxing m.group (s.count x) (weights s m x) (flag v) (flag U) (depth m now.rows) (parents_of now.rows) y (s.count x) (depth m next.rows) (parents_of next.rows)) done
-        (whole m.group (s.count x) (weights s m x) (flag now.done) (flag U) (depth m now.rows) (parents_of now.rows) y (depth m next.rows) (parents_of next.rows) r free rel)))
+  abbrev pub Spreads : Work → Type 0
+  Spreads v = Begun m.group u.table.n (weights s m u.graph) (depth m u.table.rows) (parents_of u.table.rows) (flag v.done) (depth m v.rows) (parents_of v.rows)
 
-  pub gathers_skip : (start now : Work) (y : ℕ) → Gathers start now y → now.done ≡ start.done → flag now.done y ≡ false → Gathers start now (y + 1)
-  gathers_skip start now y gathers done dy rises first =
-      gather_skip m.group n (weights s m x) (depth m rows) (parents_of rows) (flag start.done) rises (depth m now.rows) (parents_of now.rows) y (gathers rises first) (sym (ap (λ v. flag v y) done) ∙ dy)
+  abbrev pub Gathers : (ℕ → Bool) → Work → ℕ → Type 0
+  Gathers K v i = Gathered m.group u.table.n (weights s m u.graph) (depth m u.table.rows) (parents_of u.table.rows) K i (depth m v.rows) (parents_of v.rows)
 
-  -- once the edges from all markers were relaxed
-  pub gathers_all : (start now : Work) (i : ℕ) → n ≤ i → Gathers start now i → Gathers start now n
-  gathers_all start now i le gathers rises first =
-      let all = gathers rises first in
-      record { stays = all.stays; hangs = all.hangs; most = λ a b c l. all.most a b c (omega arith) }
+  module _ (now : Work) (spreads : Spreads now) where
+    pub spread_all : ((z : ℕ) → z < u.table.n → flag now.done z ≡ true) → Solved m.group u.table.n (weights s m u.graph) (depth m now.rows) (parents_of now.rows)
+    spread_all all = spread_end m.group n w d p spreads.0 spreads.1 (flag now.done) (depth m now.rows) (parents_of now.rows) spreads.2 all u.table.some
 
-  pub kept_small : (now next : Work) (y : ℕ) (r : Option ℕ)
-      → Relaxation m.group (s.count x) (weights s m x) (flag now.done) (flag U) (depth m now.rows) (parents_of now.rows) y (depth m next.rows) (parents_of next.rows) r
+    pub spreads_next : (next : Work) (y : ℕ) (U : ℕ → Bool) → ((z : ℕ) → U z ≡ false) → Picked m.group u.table.n (depth m u.table.rows) (flag now.done) (depth m now.rows) y
+        → Settles (flag now.done) y (flag next.done) → (r : Result (Unit {0}) ℕ)
+        → Relaxation m.group u.table.n (weights s m u.graph) (flag next.done) U (depth m now.rows) (parents_of now.rows) y (depth m next.rows) (parents_of next.rows) r → Spreads next
+    spreads_next next y U free pick sets r rel = (
+      spreads.0,
+      spreads.1,
+      spread_step m.group n w d p spreads.0 spreads.1 U (flag now.done) (flag next.done) (depth m now.rows) (depth m next.rows) (parents_of now.rows) (parents_of next.rows) y spreads.2 pick sets (whole r free rel),
+    )
+
+  module _ (K : ℕ → Bool) (rises : Rises m.group u.table.n (weights s m u.graph) (depth m u.table.rows) (parents_of u.table.rows) K) (now : Work) where
+    -- once the edges from all markers were relaxed
+    pub gathers_all : (i : ℕ) → u.table.n ≤ i → Gathers K now i → flag now.done ≡ K → Spreads now
+    gathers_all i le got done = (
+      K,
+      rises,
+      rw done (spread_start m.group n w d p K rises (depth m now.rows) (parents_of now.rows) record { stays = got.stays; hangs = got.hangs; most = λ a b c l. got.most a b c (omega arith) }),
+    )
+
+    module _ (y : ℕ) (gathers : Gathers K now y) where
+      pub gathers_next : (next : Work) (U : ℕ → Bool) → ((z : ℕ) → U z ≡ false) → K y ≡ true → (r : Result (Unit {0}) ℕ)
+          → Relaxation m.group u.table.n (weights s m u.graph) K U (depth m now.rows) (parents_of now.rows) y (depth m next.rows) (parents_of next.rows) r → Gathers K next (y + 1)
+      gathers_next next U free dy r rel =
+          gather_step m.group n w d p K rises U (depth m now.rows) (depth m next.rows) (parents_of now.rows) (parents_of next.rows) y gathers dy (whole r free rel)
+
+      pub gathers_skip : K y ≡ false → Gathers K now (y + 1)
+      gathers_skip dy = gather_skip m.group n w d p K rises (depth m now.rows) (parents_of now.rows) y gathers dy
+
+  -- the depth of a marker that is done is as it was, and so as small
+  pub kept_small : (now next : Work) (y : ℕ) (U : ℕ → Bool) → ((z : ℕ) → U z ≡ false) → (r : Result (Unit {0}) ℕ)
+      → Relaxation m.group u.table.n (weights s m u.graph) (flag now.done) U (depth m now.rows) (parents_of now.rows) y (depth m next.rows) (parents_of next.rows) r
       → (z : ℕ) → flag now.done z ≡ true → m.within 63 (deep now.rows z) → m.within 64 (deep next.rows z) → m.within 63 (deep next.rows z)
-  kept_small now next y r rel z dz small new =
+  kept_small now next y U free r rel z dz small new =
       subst (m.within 63)
       (m.laws.faithful (deep now.rows z) (deep next.rows z) (wider_to m.laws.wider 63 256 _ (omega arith) small) (wider_to m.laws.wider 64 256 _ (omega arith) new)
-      (sym (unmoved_done m.group (s.count x) (weights s m x) (flag U) (flag now.done) (depth m now.rows) (depth m next.rows) (parents_of now.rows) (parents_of next.rows) y (s.count x)
-      (whole m.group (s.count x) (weights s m x) (flag now.done) (flag U) (depth m now.rows) (parents_of now.rows) y (depth m next.rows) (parents_of next.rows) r free rel) z dz).0))
+      (sym (unmoved_done m.group n w U (flag now.done) (depth m now.rows) (depth m next.rows) (parents_of now.rows) (parents_of next.rows) y n (whole r free rel) z dz).0))
       small

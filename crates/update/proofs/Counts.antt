@@ -1,5 +1,5 @@
 -- How many markers are settled. Assumes nothing.
-use Rattle.std.proofs.Common.{◌≡◌, ℕ, zero, suc, ◌<◌, ◌≤◌, Bool, true, false, cond, refl, ap, ◌∙◌, arith}
+use Rattle.std.proofs.Common.{◌≡◌, ℕ, zero, suc, ◌+◌, ◌<◌, ◌≤◌, Bool, true, false, cond, refl, ap, ◌∙◌, arith}
 use native.Mathlib.Decide.{ℕ_discrete}
 use Rattle.graph.proofs.Relabel.{Settles}
 use Rattle.update.specs.Lowering.{settled}
@@ -46,3 +46,6 @@ settled_one X X' (suc n) y h free sets = at (λ (l : y < n). settled_one X X' n 
     at : (y < n → settled X' n ≡ suc (settled X n)) → Dec (n ≡ y) → cond (X' n) (suc (settled X' n)) (settled X' n) ≡ suc (cond (X n) (suc (settled X n)) (settled X n))
     at ih (yes e) = last (settled X' n) (settled X n) (settled_same X X' n (λ z l. sets.other z (not_y z l e))) (ap X' e ∙ sets.at) (ap X e ∙ free)
     at ih (no k) = before (settled X' n) (settled X n) (ih (less k)) (sets.other n k)
+
+pub settled_more : {X X' : ℕ → Bool} {n y : ℕ} → Settles X y X' → y < n → X y ≡ false → settled X' n ≡ settled X n + 1
+settled_more {X} {X'} {n} {y} sets inside free = omega (arith, settled_one X X' n y inside free sets)

@@ -8,6 +8,7 @@ pub mod Shrinks
 pub mod Cycles
 pub mod Lowers
 pub mod Settling
+pub mod Falling
 pub mod Starts
 pub mod Ends
 pub mod Begins

@@ -1,7 +1,10 @@
 -- Old paths that still stand are kept. Assumes nothing.
-use Rattle.std.proofs.Common.{◌≡◌, ℕ, zero, suc, ◌+◌, ◌-◌, ◌<◌, ◌⊎◌, List, [], ◌∷◌, ◌++◌, Some, sym, refl, ap, ◌∙◌, subst, inl, inr, arith}
+use Rattle.std.proofs.Common.{◌≡◌, ℕ, zero, suc, ◌+◌, ◌-◌, ◌<◌, ◌≤◌, ◌⊎◌, List, [], ◌∷◌, ◌++◌, length, set, length-set, Some, Decides, Ordering, Less, Equal, Greater, is_eq, sym, refl, ap, ◌∙◌, subst, inl, inr, arith}
+use Rattle.std.specs.Ordering.{MatchOrdering}
+use Rattle.std.proofs.lemmas.Bool.{false≢true}
+use mathlib.Core.Path.{fun_ext}
 use native.Mathlib.Decide.{ℕ_discrete}
-use Rattle.measure.specs.Group.{OrderedGroup}
+use Rattle.measure.specs.Group.{Lt, OrderedGroup}
 use Rattle.measure.specs.declared.Amount.{Amount}
 use Rattle.measure.specs.declared.Measure as measure
 use Rattle.graph.specs.declared.Graph as graph
@@ -9,10 +12,13 @@ use Rattle.graph.specs.Graph.{PathTo, Weight}
 use Rattle.graph.specs.Tree.{climb, climbed, path_to, Tree}
 use Rattle.graph.specs.Theorems.{Solved, TightWalk}
 use Rattle.graph.specs.Weights.{valued, weights}
+use Rattle.graph.proofs.Sums.{le_of_eq}
 use Rattle.graph.proofs.Trees.{climb_datum, short_climbs}
 use Rattle.graph.proofs.Valued.{one_value}
 use Rattle.graph.proofs.Walks.{tight_prefixes}
 use Rattle.table.specs.declared.row.Row.{Row}
+use Rattle.table.specs.Climb.{deep, up as parents_of}
+use Rattle.update.proofs.Rows.{deep_kept, up_other, up_same}
 use Rattle.update.specs.Reading.{depth}
 use Rattle.update.specs.Restoring.{TightEdge, Stands}
 
@@ -129,11 +135,70 @@ module _ (g : OrderedGroup) (n : ℕ) (w : Weight g) (L : ℕ → g.carrier) (p 
       by (yes e) = subst (λ u. (Stands g n w L p u × (q'' u ≡ p u)) ⊎ ((Stands g n w L p u → q u ≡ p u) × (q'' u ≡ q u))) (sym e) here
       by (no ne) = was ne (each z (earlier ne))
 
-module _ {X Y : Type 0} (s : graph.Ghosts X) (m : measure.Ghosts Y) (x : X) (rows : List Row) (a b : ℕ) (w sum : Amount) (edge : s.weight x a b ≡ Some w)
-    (added : m.value sum ≡ m.group.plus (depth m rows a) (m.value w)) where
-  pub tight_edge : a < s.count x → b < s.count x → m.group.le (m.value sum) (depth m rows b) → m.group.le (depth m rows b) (m.value sum)
-      → TightEdge m.group (s.count x) (weights s m x) (depth m rows) a b
-  tight_edge ha hb h k = (m.value w, (ha, hb, ap (valued m.value) edge), m.group.le_antisym _ _ k h ∙ added)
+-- equality, from a comparison
+pub equal_by : (g : OrderedGroup) (x y : g.carrier) (o : Ordering) → MatchOrdering o (Lt g x y) (x ≡ y) (Lt g y x) → Decides (is_eq o) (x ≡ y)
+equal_by g x y Less r = ((λ e. absurd (false≢true e)), (λ e. absurd (r (le_of_eq g (sym e)))))
+equal_by g x y Equal r = ((λ _. r), (λ _. refl))
+equal_by g x y Greater r = ((λ e. absurd (false≢true e)), (λ e. absurd (r (le_of_eq g e))))
 
-  pub edge_sum : TightEdge m.group (s.count x) (weights s m x) (depth m rows) a b → m.value sum ≡ depth m rows b
-  edge_sum (v, e, t) = added ∙ ap (m.group.plus (depth m rows a)) (sym (one_value m.value (s.weight x a b) w v edge e.2)) ∙ sym t
+module _ {X Y : Type 0} (s : graph.Ghosts X) (m : measure.Ghosts Y) (x : X) (n : ℕ) (rows : List Row) (a b : ℕ) (w : Amount) (edge : s.weight x a b ≡ Some w) where
+  pub tight_edge : a < n → b < n → depth m rows b ≡ m.group.plus (depth m rows a) (m.value w) → TightEdge m.group n (weights s m x) (depth m rows) a b
+  tight_edge ha hb e = (m.value w, (ha, hb, ap (valued m.value) edge), e)
+
+  pub edge_sum : TightEdge m.group n (weights s m x) (depth m rows) a b → depth m rows b ≡ m.group.plus (depth m rows a) (m.value w)
+  edge_sum (v, e, t) = t ∙ ap (m.group.plus (depth m rows a)) (one_value m.value (s.weight x a b) w v edge e.2)
+
+module _ {M : Type 0} (m : measure.Ghosts M) (n : ℕ) (w : Weight m.group) (p : ℕ → ℕ) (start : List Row) where
+  -- the rows as the turn for marker k begins
+  pub record Restoring (now : List Row) (k : ℕ) : Type 0 where
+    pub depths : (z : ℕ) → deep now z ≡ deep start z
+    pub each : Restored m.group n w (depth m start) p (parents_of start) (parents_of now) k
+    pub later : (z : ℕ) → k ≤ z → parents_of now z ≡ parents_of start z
+    pub long : length now ≡ 64
+
+  pub restore_start : (now : List Row) → now ≡ start → length now ≡ 64 → Restoring now 0
+  restore_start now e long = record {
+    depths = λ z. ap (λ v. deep v z) e;
+    each = λ z h. absurd (none z h);
+    later = λ z h. ap (λ v. parents_of v z) e;
+    long = long;
+  }
+    where
+      none : (z : ℕ) → z < 0 → ⊥
+      none z h = omega arith
+
+  module _ (now : List Row) (k : ℕ) (got : Restoring now k) where
+    pub restore_keep : (Stands m.group n w (depth m start) p k → parents_of start k ≡ p k) → Restoring now (k + 1)
+    restore_keep stays = record {
+      depths = got.depths;
+      each = restored_more m.group n w (depth m start) p (parents_of start) (parents_of now) (parents_of now) k got.each (λ z ne. refl) (inr (stays, got.later k (omega arith)));
+      later = λ z h. got.later z (omega arith);
+      long = got.long;
+    }
+
+    pub restore_take : Stands m.group n w (depth m start) p k → k < 64 → (y : ℕ) → y ≡ p k → Restoring (set now k (record { depth = deep now k; parent = y })) (k + 1)
+    restore_take stands low y e = record {
+      depths = λ z. deep_kept now k y tall z ∙ got.depths z;
+      each = restored_more m.group n w (depth m start) p (parents_of start) (parents_of now) (parents_of (set now k row)) k got.each (λ z ne. up_other now k z row ne) (inl (stands, up_same now k row tall ∙ e));
+      later = λ z h. up_other now k z row (λ o. omega arith) ∙ got.later z (omega arith);
+      long = length-set now k row ∙ got.long;
+    }
+      where
+        tall : k < length now
+        tall = omega (arith, got.long)
+
+        row : Row
+        row = record { depth = deep now k; parent = y }
+
+  module _ (now : List Row) (k : ℕ) (got : Restoring now k) (all : n ≤ k) (some : 0 < n) (old : Tree n p) (solved : Solved m.group n w (depth m start) (parents_of start)) where
+    same : depth m now ≡ depth m start
+    same = fun_ext (λ z. ap m.value (got.depths z))
+
+    every : Restored m.group n w (depth m start) p (parents_of start) (parents_of now) n
+    every z h = got.each z (omega arith)
+
+    pub restore_solved : Solved m.group n w (depth m now) (parents_of now)
+    restore_solved = rw same (restored m.group n w (depth m start) p (parents_of start) (parents_of now) every old solved some)
+
+    pub restore_kept : (z : ℕ) → z < n → PathTo m.group n w (path_to p n z) z (depth m now z) → path_to (parents_of now) n z ≡ path_to p n z
+    restore_kept z h path = kept_path m.group n w (depth m start) p (parents_of start) (parents_of now) every old solved z h (rw same at path)

@@ -1,4 +1,5 @@
 pub mod Reading
+pub mod Tabled
 pub mod Relaxing
 pub mod Nearest
 pub mod Lowering

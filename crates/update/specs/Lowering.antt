@@ -1,12 +1,17 @@
 -- The labels and parents while one weight falls, and what comes of it. Assumes nothing.
-use Rattle.std.specs.Prelude.{◌≡◌, ℕ, zero, suc, ◌<◌, Bool, true, false, cond, ◌∷◌}
+use Rattle.std.specs.Prelude.{◌≡◌, ℕ, zero, suc, ◌+◌, ◌<◌, Bool, true, false, cond, ◌∷◌, Ok, Err, Result}
 use Rattle.measure.specs.Group.{OrderedGroup}
+use Rattle.measure.specs.declared.Measure as measure
 use Rattle.graph.specs.Graph.{Weight, Cycle, Fits}
 use Rattle.graph.specs.Tree.{climb, way, Tree, Tight}
 use Rattle.graph.specs.Theorems.{Solved}
 use Rattle.graph.specs.Change.{Lowered}
 use Rattle.graph.proofs.Relabel.{Relabel, Below}
 use Rattle.graph.proofs.Regrow.{Grown}
+use Rattle.table.specs.Climb.{up as parents_of}
+use Rattle.update.specs.declared.work.Contradiction.{Contradiction}
+use Rattle.update.specs.declared.work.Work.{Work}
+use Rattle.update.specs.Reading.{Deep, depth, flag}
 
 -- how many of the first n are settled
 abbrev pub settled : (ℕ → Bool) → ℕ → ℕ
@@ -49,10 +54,15 @@ pub record NegativeCycle (g : OrderedGroup) (n : ℕ) (w : Weight g) (q : ℕ �
   pub cycle : Cycle g n w (b ∷ way q up a) sum
   pub negative : ¬ g.le g.neutral sum
 
--- a new shortest-path tree, or a contradiction
-abbrev pub Settlement : (g : OrderedGroup) → ℕ → Weight g → ℕ → ℕ → (ℕ → g.carrier) → (ℕ → ℕ) → Bool → Type 0
-Settlement g n w a b L q true = Solved g n w L q
-Settlement g n w a b L q false = NegativeCycle g n w q a b
+module _ {M : Type 0} (μ : measure.Ghosts M) (n : ℕ) where
+  -- each marker that is settled may make the labels larger by one
+  abbrev pub Room : Work → Type 0
+  Room v = Deep μ n (64 + settled (flag v.done) n) v.rows
+
+  -- a new shortest-path tree, or a contradiction
+  abbrev pub Settlement : Weight μ.group → ℕ → ℕ → Result Work Contradiction → Type 0
+  Settlement w a b (Ok v) = Solved μ.group n w (depth μ v.rows) (parents_of v.rows)
+  Settlement w a b (Err v) = NegativeCycle μ.group n w (parents_of v.rows) a b
 
 -- d and p are a shortest-path tree before the edge from a to b fell to c
 pub record SolvedBefore (g : OrderedGroup) (n : ℕ) (w' : Weight g) (a b : ℕ) (c : g.carrier) (d : ℕ → g.carrier) (p : ℕ → ℕ) : Type 0 where

@@ -7,6 +7,8 @@ pub mod nearest;
 pub mod relax;
 pub mod restore;
 mod start;
+pub mod update;
 pub mod work;
 
-pub use work::{Lowering, Work};
+pub use update::Update;
+pub use work::{Contradiction, Work};

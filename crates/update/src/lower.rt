@@ -1,134 +1,94 @@
-ghost use Rattle.std.specs.Prelude.{◌≡◌, ℕ, ◌+◌, ◌<◌, true, Some, MatchBool};
+ghost use Rattle.std.specs.Prelude.{◌≡◌, ℕ, ◌<◌, Some, Decides, IfOk, MatchBool};
 ghost use Rattle.graph.specs.Graph.{Weight};
 ghost use Rattle.graph.specs.Theorems.{Solved};
-ghost use Rattle.graph.specs.Weights.{Usable, weights};
-ghost use Rattle.table.specs.Climb.{up as parents_of};
+ghost use Rattle.graph.specs.Weights.{weights};
+ghost use Rattle.table.specs.Climb.{deep, up as parents_of};
 ghost use Rattle.update.specs.Reading.{Deep, depth, flag};
-ghost use Rattle.update.specs.Lowering.{Falls, Growing, Settlement, settled, SolvedBefore};
-ghost use Rattle.update.specs.Lowers.{Deeper, Lowers};
+ghost use Rattle.update.specs.Lowering.{Falls, Growing, Room, Settlement, SolvedBefore};
+ghost use Rattle.update.specs.Lowers.{Deeper, Falling, Lowers};
 
-use crate::nearest::nearest;
-use crate::relax::relax_from;
 use crate::start::ancestors;
-use crate::{Lowering, Work};
+use crate::{Contradiction, Update, Work};
 use graph::Graph;
 use measure::{Amount, Measure};
 use table::{DepthTable, Row};
 
-// Settles one marker after another until none has fallen, or one falls that may not: whether all is well.
-fn settle_fallen<G: Graph, M: Measure>(
-    graph: &G,
-    measure: &M,
-    old: &DepthTable,
-    up: &[bool; 64],
-    work: &mut Work,
-) -> bool
-    requires graph { Usable G.Graph M.Measure graph.now }
-    requires same { old.now.n ≡ G.Graph.count graph.now }
-    requires depths { Deep M.Measure old.now.n 63 old.now.rows }
-    requires sizes { Deep M.Measure old.now.n (64 + settled (flag work.old.done) old.now.n) work.old.rows }
-    ensures outcome { (w : Weight M.group) (a b : ℕ) (c : M.group.carrier)
-        → Falls M.group old.now.n w (weights G.Graph M.Measure graph.now) a b c (depth M.Measure old.now.rows) (parents_of old.now.rows) (flag up.now)
-        → Growing M.group old.now.n w (weights G.Graph M.Measure graph.now) a b c (depth M.Measure old.now.rows) (parents_of old.now.rows) (flag up.now) (flag work.old.done) (depth M.Measure work.old.rows) (parents_of work.old.rows)
-        → Settlement M.group old.now.n (weights G.Graph M.Measure graph.now) a b (depth M.Measure work.new.rows) (parents_of work.new.rows) result }
-    ensures sizes { Deep M.Measure old.now.n 128 work.new.rows }
-{
-    while let Some(y) = nearest(measure, old, work) {
-        if measure::at_most(measure, old.depth(y), work.rows[y as usize].depth) {
-            return true;
+impl<'a, G: Graph, M: Measure> Update<'a, G, M> {
+    // Whether the depth of y has not fallen.
+    fn stays(&self, work: &Work, y: u16) -> bool
+        requires marker { y < self.now.table.n }
+        requires labels { Deep M.Measure self.now.table.n 128 work.now.rows }
+        ensures { Decides result (M.group.le (depth M.Measure self.now.table.rows y) (depth M.Measure work.now.rows y)) }
+    {
+        measure::at_most(self.measure, self.depth(y), work.rows[y as usize].depth)
+    }
+
+    // Settles one marker after another until none has fallen, or one of `up` would fall.
+    fn settle_fallen(&self, up: &[bool; 64], mut work: Work) -> Result<Work, Contradiction>
+        requires { Room M.Measure self.now.table.n work }
+        ensures outcome { (w : Weight M.group) (a b : ℕ) (c : M.group.carrier)
+            → Falls M.group self.now.table.n w (weights G.Graph M.Measure self.now.graph) a b c (depth M.Measure self.now.table.rows) (parents_of self.now.table.rows) (flag up.now)
+            → Growing M.group self.now.table.n w (weights G.Graph M.Measure self.now.graph) a b c (depth M.Measure self.now.table.rows) (parents_of self.now.table.rows) (flag up.now) (flag work.done) (depth M.Measure work.rows) (parents_of work.rows)
+            → Settlement M.Measure self.now.table.n (weights G.Graph M.Measure self.now.graph) a b result }
+        ensures sizes { IfOk result (λ v. Deep M.Measure self.now.table.n 128 v.rows) }
+    {
+        while let Some(y) = self.nearest(&work) {
+            if self.stays(&work, y) {
+                break;
+            }
+            if let Err(z) = self.settle(up, &mut work, y) {
+                return Err(work.closed(z, y));
+            }
         }
-        work.done[y as usize] = true;
-        if let Some(z) = relax_from(graph, measure, up, work, y) {
-            work.rows[z as usize].parent = y;
-            return false;
+        Ok(work)
+    }
+
+    // Whether the old depths still solve the graph, since b is no deeper than the edge from a allows.
+    fn stands(&self, a: u16, b: u16, w: Amount) -> bool
+        requires start { a < self.now.table.n }
+        requires end { b < self.now.table.n }
+        requires edge { G.Graph.weight self.now.graph a b ≡ Some w }
+        requires standing { SolvedBefore M.group self.now.table.n (weights G.Graph M.Measure self.now.graph) a b (M.value w) (depth M.Measure self.now.table.rows) (parents_of self.now.table.rows) }
+        ensures { MatchBool result
+            (Solved M.group self.now.table.n (weights G.Graph M.Measure self.now.graph) (depth M.Measure self.now.table.rows) (parents_of self.now.table.rows))
+            (Deeper M.Measure self.now.table.rows a b w) }
+    {
+        measure::at_most(self.measure, self.depth(b), self.allowed(a, b, w))
+    }
+
+    // Lowers b to the edge from a, and every marker that falls with it.
+    fn fall(&self, a: u16, b: u16, w: Amount) -> Result<DepthTable, Contradiction>
+        requires start { a < self.now.table.n }
+        requires end { b < self.now.table.n }
+        requires edge { G.Graph.weight self.now.graph a b ≡ Some w }
+        requires standing { SolvedBefore M.group self.now.table.n (weights G.Graph M.Measure self.now.graph) a b (M.value w) (depth M.Measure self.now.table.rows) (parents_of self.now.table.rows) }
+        requires falls { Deeper M.Measure self.now.table.rows a b w }
+        ensures { Falling M.Measure self.now.table.n (weights G.Graph M.Measure self.now.graph) a b result }
+    {
+        let up = ancestors(self.table, a);
+        let mut work = self.start();
+        if up[b as usize] {
+            return Err(Contradiction { rows: work.rows });
         }
+        work.rows[b as usize] = Row {
+            depth: self.allowed(a, b, w),
+            parent: a,
+        };
+        let work = self.settle_fallen(&up, work)?;
+        Ok(self.solved(work.rows))
     }
-    true
-}
 
-// Whether the old depths still solve the graph, since b is no deeper than the edge from a allows.
-fn stands<G: Graph, M: Measure>(
-    graph: &G,
-    measure: &M,
-    old: &DepthTable,
-    a: u16,
-    b: u16,
-    w: Amount,
-) -> bool
-    requires graph { Usable G.Graph M.Measure graph.now }
-    requires same { old.now.n ≡ G.Graph.count graph.now }
-    requires start { a < old.now.n }
-    requires end { b < old.now.n }
-    requires edge { G.Graph.weight graph.now a b ≡ Some w }
-    requires depths { Deep M.Measure old.now.n 63 old.now.rows }
-    requires standing { SolvedBefore M.group old.now.n (weights G.Graph M.Measure graph.now) a b (M.value w) (depth M.Measure old.now.rows) (parents_of old.now.rows) }
-    ensures { MatchBool result
-        (Solved M.group old.now.n (weights G.Graph M.Measure graph.now) (depth M.Measure old.now.rows) (parents_of old.now.rows))
-        (Deeper M.Measure old.now.rows a b w) }
-{
-    let sum = measure.sum(old.depth(a), w);
-    measure::at_most(measure, old.depth(b), sum)
-}
-
-// Lowers b to the edge from a, and every marker that falls with it.
-fn fall<G: Graph, M: Measure>(
-    graph: &G,
-    measure: &M,
-    old: &DepthTable,
-    a: u16,
-    b: u16,
-    w: Amount,
-) -> Lowering
-    requires graph { Usable G.Graph M.Measure graph.now }
-    requires same { old.now.n ≡ G.Graph.count graph.now }
-    requires start { a < old.now.n }
-    requires end { b < old.now.n }
-    requires edge { G.Graph.weight graph.now a b ≡ Some w }
-    requires depths { Deep M.Measure old.now.n 63 old.now.rows }
-    requires standing { SolvedBefore M.group old.now.n (weights G.Graph M.Measure graph.now) a b (M.value w) (depth M.Measure old.now.rows) (parents_of old.now.rows) }
-    requires falls { Deeper M.Measure old.now.rows a b w }
-    ensures { Lowers M.Measure old.now.n (weights G.Graph M.Measure graph.now) a b old.now.rows result }
-{
-    let sum = measure.sum(old.depth(a), w);
-    let up = ancestors(old, a);
-    let mut work = Work {
-        rows: old.rows(),
-        done: [false; 64],
-    };
-    if up[b as usize] {
-        return Lowering::Contradiction(work);
+    /// The edge from a to b has fallen to w: the new table, if it is another; or a cycle that sums to below zero.
+    pub fn lower(&self, a: u16, b: u16, w: Amount) -> Result<Option<DepthTable>, Contradiction>
+        requires start { a < self.now.table.n }
+        requires end { b < self.now.table.n }
+        requires edge { G.Graph.weight self.now.graph a b ≡ Some w }
+        requires standing { SolvedBefore M.group self.now.table.n (weights G.Graph M.Measure self.now.graph) a b (M.value w) (depth M.Measure self.now.table.rows) (parents_of self.now.table.rows) }
+        ensures { Lowers M.Measure self.now.table.n (weights G.Graph M.Measure self.now.graph) a b self.now.table.rows result }
+    {
+        if self.stands(a, b, w) {
+            return Ok(None);
+        }
+        Ok(Some(self.fall(a, b, w)?))
     }
-    work.rows[b as usize] = Row {
-        depth: sum,
-        parent: a,
-    };
-    if settle_fallen(graph, measure, old, &up, &mut work) {
-        Lowering::Moved(work)
-    } else {
-        Lowering::Contradiction(work)
-    }
-}
-
-/// The edge from a to b has fallen to w: the new depths and parents, or a cycle that sums to below zero.
-pub fn lower<G: Graph, M: Measure>(
-    graph: &G,
-    measure: &M,
-    old: &DepthTable,
-    a: u16,
-    b: u16,
-    w: Amount,
-) -> Lowering
-    requires graph { Usable G.Graph M.Measure graph.now }
-    requires same { old.now.n ≡ G.Graph.count graph.now }
-    requires start { a < old.now.n }
-    requires end { b < old.now.n }
-    requires edge { G.Graph.weight graph.now a b ≡ Some w }
-    requires depths { Deep M.Measure old.now.n 63 old.now.rows }
-    requires standing { SolvedBefore M.group old.now.n (weights G.Graph M.Measure graph.now) a b (M.value w) (depth M.Measure old.now.rows) (parents_of old.now.rows) }
-    ensures { Lowers M.Measure old.now.n (weights G.Graph M.Measure graph.now) a b old.now.rows result }
-{
-    if stands(graph, measure, old, a, b, w) {
-        return Lowering::Same;
-    }
-    fall(graph, measure, old, a, b, w)
 }

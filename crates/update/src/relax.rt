@@ -16,7 +16,7 @@ pub fn relax_from<G: Graph, M: Measure>(
     up: &[bool; 64],
     work: &mut Work,
     y: u16,
-) -> Option<u16>
+) -> Result<(), u16>
     requires graph { Usable G.Graph M.Measure graph.now }
     requires marker { y < G.Graph.count graph.now }
     requires done { flag work.old.done y ≡ true }
@@ -33,7 +33,7 @@ pub fn relax_from<G: Graph, M: Measure>(
                 let sum = measure.sum(from, w);
                 if !measure::at_most(measure, work.rows[z as usize].depth, sum) {
                     if up[z as usize] {
-                        return Some(z);
+                        return Err(z);
                     }
                     work.rows[z as usize] = Row {
                         depth: sum,
@@ -43,5 +43,5 @@ pub fn relax_from<G: Graph, M: Measure>(
             }
         }
     }
-    None
+    Ok(())
 }
