@@ -9,14 +9,15 @@ use Rattle.graph.specs.Graph.{PathTo}
 use Rattle.graph.specs.Tree.{path_to}
 use Rattle.table.specs.Climb.{deep, up}
 use Rattle.table.specs.declared.table.DepthTable.{DepthTable}
-use Rattle.law.specs.Calls.{Keeps, PathAt, tally}
+use Rattle.law.specs.Calls.{changes_after, Keeps, PathAt, tally}
+use Rattle.law.specs.Calls.Kind.{change}
 use Rattle.law.specs.Amounts.{same_value}
 use Rattle.law.specs.Refusals.{is_new}
 use Rattle.law.specs.Standing.{bounds_of, put, Standing}
 use Rattle.law.specs.declared.call.State.TheVariants as state
-use Rattle.solver.specs.declared.solver.Solver.{Solver}
+use Rattle.solver.specs.Held.{Held}
 use Rattle.change.proofs.Tallies.{none_moved, none_reparented}
-use Rattle.solver.specs.Changing.{counts, KeptPaths, with_table}
+use Rattle.solver.specs.Changing.{counts, KeptPaths}
 use Rattle.solver.specs.Model.{model, standing_of}
 use Rattle.solver.specs.Settling.{Settled}
 use Rattle.solver.specs.Suits.{Admitted, Suits, TableSuits}
@@ -27,16 +28,16 @@ use Rattle.solver.proofs.Openings.{table_of}
 pub no_counts : {M : Type 0} (μ : MeasureGhosts M) (t : DepthTable) → counts μ t t ≡ (0, 0)
 no_counts μ t = ap (λ (i : ℕ). (i, tally t.n (λ k. not (eqb (up t.rows k) (up t.rows k))))) (none_moved μ t.n (deep t.rows)) ∙ ap (λ (i : ℕ). (0, i)) (none_reparented t.n (up t.rows))
 
-module _ {S M : Type 0} (st : StoreGhosts S) (μ : MeasureGhosts M) (s : Solver S M) (suits : Suits st μ s) (opened : is_new s.state ≡ false) (a b : ℕ) (o : Option Amount)
+module _ {S M : Type 0} (st : StoreGhosts S) (μ : MeasureGhosts M) (s : Held S) (suits : Suits st μ s) (opened : is_new s.state ≡ false) (a b : ℕ) (o : Option Amount)
     (admitted : (w : Amount) → o ≡ Some w → μ.admits w ≡ true) (store : S) (sound : st.sound store)
     (meaning : st.meaning store ≡ changed_meaning (st.meaning s.store) a b o) (table : DepthTable)
     (fits : TableSuits μ s.total (st.meaning s.store).count (set_tie (st.meaning s.store).tie a b o) table) where
   abbrev m : StoreMeaning
   m = st.meaning s.store
 
-  -- the solver, once the store is written and the table taken over
-  abbrev pub after : Solver S M
-  after = with_table μ (record { store = store; measure = s.measure; total = s.total; number = s.number; state = s.state; changes = s.changes; table = s.table }) table
+  -- the solver, once the store is written, the change counted and the table taken over
+  abbrev pub after : Held S
+  after = record { store = store; total = s.total; number = s.number; state = s.state; changes = changes_after change s.changes; table = table }
 
   after_fits : TableSuits μ s.total (st.meaning store).count (st.meaning store).tie table
   after_fits = subst (λ (k : StoreMeaning). TableSuits μ s.total k.count k.tie table) (sym meaning) fits

@@ -11,9 +11,8 @@ use Rattle.law.specs.Calls.{changes_after, Model, moved, reparented, Table}
 use Rattle.law.specs.Calls.Kind.{change}
 use Rattle.law.specs.Standing.{bounds_of, put}
 use Rattle.law.specs.declared.call.State.TheVariants as state
-use Rattle.solver.specs.declared.solver.Solver.{Solver}
+use Rattle.solver.specs.Held.{Held}
 use Rattle.solver.specs.Model.{model}
-use Rattle.solver.specs.Suits.{Suits}
 
 module _ {M : Type 0} (μ : MeasureGhosts M) where
   -- an amount, where there is one, is admitted
@@ -31,7 +30,7 @@ module _ {M : Type 0} (μ : MeasureGhosts M) where
 
 module _ {S M : Type 0} (st : StoreGhosts S) (μ : MeasureGhosts M) where
   -- the change, or a cycle from b to a that adds up to less than zero, and the solver as it was
-  abbrev pub Settles : Solver S M → ℕ → ℕ → Option Amount → Result (ℕ × ℕ) Work → Solver S M → Type 0
-  Settles s a b o (Ok r) s' = Suits st μ s' × (s'.state ≡ state.Open) × Settled μ (model st s) a b o r (model st s')
+  abbrev pub Settles : Held S → ℕ → ℕ → Option Amount → Result (ℕ × ℕ) Work → Held S → Type 0
+  Settles s a b o (Ok r) s' = Settled μ (model st s) a b o r (model st s')
   Settles s a b o (Err work) s' =
       (s' ≡ s) × NegativeCycle μ.group (st.meaning s.store).count (bounds_of μ s.total (set_tie (st.meaning s.store).tie a b o)) (up work.rows) a b

@@ -6,7 +6,7 @@ use Rattle.solver.proofs.solver.Solver.bad_tie.Goals as goal
 pub returns-in-Some : goal.returns-in-Some
 returns-in-Some g c =
     let m = g.S.TieStore.meaning c.args.self.now.store in
-    let below : c.loop-a.a < (g.S.TieStore.meaning c.args.self.now.store).count = rw c.marker_count-a-end.ensures at c.loop-a-test.true in
+    let below : c.loop-a.a < (g.S.TieStore.meaning c.args.self.now.store).count = rw (← c.self.view_is, ← c.marker_count-a-end.ensures) c.loop-a-test.true in
     sym (lowest_found (λ a. lowest m.count (λ b. bad_tie g.M.Measure a b (m.tie a b))) m.count c.loop-a.a c.in-Some.why below c.loop-a.invariant (sym c.in-Some.ensures))
 
 pub loop-a-preserved : goal.loop-a-preserved

@@ -6,7 +6,7 @@ use Rattle.solver.proofs.solver.Solver.bad_tie_from.Goals as goal
 pub returns-in-Some : goal.returns-in-Some
 returns-in-Some g c =
     let m = g.S.TieStore.meaning c.args.self.now.store in
-    let below : c.loop-b.b < (g.S.TieStore.meaning c.args.self.now.store).count = rw c.marker_count-b-end.ensures at c.loop-b-test.true in
+    let below : c.loop-b.b < (g.S.TieStore.meaning c.args.self.now.store).count = rw (← c.self.view_is, ← c.marker_count-b-end.ensures) c.loop-b-test.true in
     sym (lowest_found (λ b. bad_tie g.M.Measure c.args.a b (m.tie c.args.a b)) m.count c.loop-b.b c.in-Some.why below c.loop-b.invariant (sym c.in-Some.ensures))
 
 pub loop-b-preserved : goal.loop-b-preserved
