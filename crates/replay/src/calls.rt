@@ -6,7 +6,7 @@ ghost use Rattle.solver.specs.Model.{model};
 ghost use Rattle.replay.specs.Replays.{Holds, Made};
 
 use crate::results::{change, committing, opening, path_length, rolling_back};
-use law::{Answer, Refusal};
+use law::{Answer, Counts, Refusal};
 use measure::{Amount, Measure};
 use solver::{Solver, TrialToken};
 use store::TieStore;
@@ -63,7 +63,7 @@ pub(crate) fn trial<S: TieStore, M: Measure>(
     ensures holds { Holds (model S.TieStore solver.new) result.1 }
 {
     match solver.trial(from, to, amount, &mut buffer[0..room]) {
-        Ok(((moved, reparented), new)) => match token {
+        Ok((Counts { moved, reparented }, new)) => match token {
             None => (Answer::Changed { moved, reparented }, Some(new)),
             // while a trial is out no other is accepted
             Some(_held) => unreachable(),

@@ -4,6 +4,7 @@ ghost use Rattle.std.specs.Prelude.{◌≡◌};
 ghost use Rattle.solver.specs.Model.{model};
 ghost use Rattle.replay.specs.Replays.{Ended, Holds, Kept};
 
+use law::Counts;
 use measure::Measure;
 use solver::{Solver, TrialToken};
 use store::TieStore;
@@ -12,7 +13,7 @@ use store::TieStore;
 pub fn end_trial<S: TieStore, M: Measure>(
     solver: &mut Solver<S, M>,
     token: Option<TrialToken>,
-) -> Option<(u16, u16)>
+) -> Option<Counts>
     requires holds { Holds (model S.TieStore solver.old) token }
     ensures ended { Ended M.Measure (model S.TieStore solver.old) token result (model S.TieStore solver.new) }
 {

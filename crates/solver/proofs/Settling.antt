@@ -8,6 +8,7 @@ use Rattle.table.specs.declared.table.DepthTable.{DepthTable}
 use Rattle.law.specs.Calls.{changes_after}
 use Rattle.law.specs.Calls.Kind.{change}
 use Rattle.law.specs.Refusals.{is_new}
+use Rattle.law.specs.declared.call.Counts.{Counts}
 use Rattle.law.specs.declared.call.State.TheVariants as state
 use Rattle.bounds.proofs.Limits.{no_some, same_some}
 use Rattle.bounds.specs.Small.{Small}
@@ -45,7 +46,7 @@ module _ {S M : Type 0} (st : StoreGhosts S) (μ : MeasureGhosts M) (s : Held S)
 
   settled_with : (table : DepthTable) → TableSuits μ s.total (st.meaning s.store).count (set_tie (st.meaning s.store).tie a b o) table
       → KeptPaths μ s.total (set_tie (st.meaning s.store).tie a b o) s.table table
-      → (r : ℕ × ℕ) → r ≡ counts μ s.table table → Upheld st μ (to table) × Settled μ (model st s) a b o r (model st (to table))
+      → (r : Counts) → r ≡ counts μ s.table table → Upheld st μ (to table) × Settled μ (model st s) a b o r (model st (to table))
   settled_with table fits kept r counted = (
     record {
       suits = after_suits st μ s suits opened a b o (step_admitted μ o admitted) store sound meaning table fits;
@@ -55,7 +56,7 @@ module _ {S M : Type 0} (st : StoreGhosts S) (μ : MeasureGhosts M) (s : Held S)
   )
 
   -- once it has adopted the next table, if there is one
-  pub settled : (r : ℕ × ℕ) (next : Option DepthTable) (table : DepthTable) → LeadsTo μ s.total (st.meaning s.store).count (set_tie (st.meaning s.store).tie a b o) a b s.table (Ok next)
+  pub settled : (r : Counts) (next : Option DepthTable) (table : DepthTable) → LeadsTo μ s.total (st.meaning s.store).count (set_tie (st.meaning s.store).tie a b o) a b s.table (Ok next)
       → Adopted μ s.table next r table → Upheld st μ (to table) × Settled μ (model st s) a b o r (model st (to table))
   settled r None table fits (is, zero) =
       subst (λ (t : DepthTable). Upheld st μ (to t) × Settled μ (model st s) a b o r (model st (to t))) (sym is) (settled_with s.table fits (λ m h path. refl) r (zero ∙ sym (no_counts μ s.table)))

@@ -23,6 +23,7 @@ use Rattle.law.specs.declared.call.Call.TheVariants as call
 use Rattle.law.specs.declared.call.Refusal.{Refusal}
 use Rattle.law.specs.declared.call.Refusal.TheVariants.{BadAmount, ClosedMarker, Contradiction, NotOpen, PairEmpty, SameMarker, ShortBuffer, StoreFull, TrialOut, UnknownMarker}
 use Rattle.law.specs.declared.call.State.{State}
+use Rattle.law.specs.declared.call.Counts.{Counts}
 use Rattle.law.specs.declared.call.State.TheVariants as state
 use Rattle.law.proofs.Answers.{contradicted, ends_with_last, skips}
 use Rattle.bounds.proofs.Limits.{cleared_raised}
@@ -119,16 +120,16 @@ module _ (m : StoreMeaning) (a b : ℕ) (none : untie_refusal m a b ≡ None) wh
   pair_end = end_known m a b (when (not (is_some (m.tie a b))) PairEmpty ∷ []) none
 
 -- a change that has settled is what an accepted call asks for
-pub settled_answered : {M : Type 0} (μ : MeasureGhosts M) (m m' : Model) (a b : ℕ) (o : Option Amount) (r : ℕ × ℕ) → Settled μ m a b o r m'
+pub settled_answered : {M : Type 0} (μ : MeasureGhosts M) (m m' : Model) (a b : ℕ) (o : Option Amount) (r : Counts) → Settled μ m a b o r m'
     → (c : Call) (before : List ℕ) → first_refusal μ m.standing c ≡ None → kind c ≡ change → took c m.standing ≡ put m.standing a b o state.Open
     → answer_of μ c m m' ≡ answer.Changed (moved μ m m') (reparented μ m m') → buffer_after c m before ≡ before
-    → Answered μ m c before (answer.Changed r.0 r.1) before m'
+    → Answered μ m c before (answer.Changed r.moved r.reparented) before m'
 settled_answered μ m m' a b o r h c before none is-change takes answers keeps-buffer = accepted μ m c before _ before m' none
     (record {
       standing = h.standing ∙ sym takes;
       table = subst (λ (k : Kind). Table μ k m m') (sym is-change) h.table;
       changes = h.changes ∙ ap (λ (k : Kind). changes_after k m.changes) (sym is-change);
-      answered = ap (λ (p : ℕ × ℕ). answer.Changed p.0 p.1) h.counted ∙ sym answers;
+      answered = ap (λ (p : Counts). answer.Changed p.moved p.reparented) h.counted ∙ sym answers;
       buffer = sym keeps-buffer;
     })
 

@@ -17,6 +17,7 @@ use Rattle.law.specs.declared.call.Answer.TheVariants as answer
 use Rattle.law.specs.declared.call.Call.TheVariants as call
 use Rattle.law.specs.declared.call.Refusal.{Refusal}
 use Rattle.law.specs.declared.call.Refusal.TheVariants.{NotOpen, TrialOut, WrongToken}
+use Rattle.law.specs.declared.call.Counts.{Counts}
 use Rattle.law.specs.declared.call.State.TheVariants as state
 use Rattle.law.proofs.Answers.{skips}
 use Rattle.solver.specs.Held.{Held}
@@ -140,8 +141,8 @@ module _ {S M : Type 0} (st : StoreGhosts S) (μ : MeasureGhosts M) (s : Held S)
       negative_cycle_refutes μ.group (st.meaning s.store).count (bounds_of μ s.total (set_tie (st.meaning s.store).tie a b was)) (b ∷ way q c.up a) c.sum c.cycle c.negative
       trial_kept.depths trial_kept.fit
 
-  pub roll_back_answered : (number : ℕ) → number ≡ s.number → (m' : Model) (r : ℕ × ℕ) → Settled μ (model st s) a b was r m'
-      → Answered μ (model st s) (call.RollBack number) [] (answer.Changed r.0 r.1) [] m'
+  pub roll_back_answered : (number : ℕ) → number ≡ s.number → (m' : Model) (r : Counts) → Settled μ (model st s) a b was r m'
+      → Answered μ (model st s) (call.RollBack number) [] (answer.Changed r.moved r.reparented) [] m'
   roll_back_answered number own m' r h =
       settled_answered μ (model st s) m' a b was r h (call.RollBack number) []
       (skips (not (on_trial s.state && eqb number s.number)) WrongToken [] (ap not (and_from (on_trial s.state) (eqb number s.number) (ap on_trial out) (eq-eqb number s.number own))))

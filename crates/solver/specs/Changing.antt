@@ -13,6 +13,7 @@ use Rattle.law.specs.Amounts.{same_value}
 use Rattle.law.specs.Calls.{tally}
 use Rattle.law.specs.Refusals.{first, when}
 use Rattle.law.specs.Standing.{bounds_of, Ties}
+use Rattle.law.specs.declared.call.Counts.{Counts}
 use Rattle.law.specs.declared.call.Refusal.{Refusal}
 use Rattle.law.specs.declared.call.Refusal.TheVariants.{UnknownMarker, SameMarker, ClosedMarker, BadAmount, ShortBuffer, PairEmpty, StoreFull}
 use Rattle.solver.specs.Suits.{TableSuits}
@@ -41,8 +42,11 @@ module _ {M : Type 0} (μ : MeasureGhosts M) where
       ∷ [])
 
   -- how many markers have another depth, and how many another parent
-  abbrev pub counts : DepthTable → DepthTable → ℕ × ℕ
-  counts t t' = (tally t.n (λ k. not (same_value μ (deep t.rows k) (deep t'.rows k))), tally t.n (λ k. not (up t.rows k == up t'.rows k)))
+  abbrev pub counts : DepthTable → DepthTable → Counts
+  counts t t' = record {
+    moved = tally t.n (λ k. not (same_value μ (deep t.rows k) (deep t'.rows k)));
+    reparented = tally t.n (λ k. not (up t.rows k == up t'.rows k));
+  }
 
   -- a table of as many markers, whose depths can be compared
   abbrev pub SameSize : DepthTable → Option DepthTable → Type 0
@@ -51,8 +55,8 @@ module _ {M : Type 0} (μ : MeasureGhosts M) where
       (t'.n ≡ t.n) × ((z : ℕ) → z < t.n → μ.within 63 (deep t.rows z)) × ((z : ℕ) → z < t.n → μ.within 63 (deep t'.rows z))
 
   -- the table that is held once the next one, if there is one, is taken over, and the counts of what then differs
-  abbrev pub Adopted : DepthTable → Option DepthTable → ℕ × ℕ → DepthTable → Type 0
-  Adopted t None r t' = (t' ≡ t) × (r ≡ (0, 0))
+  abbrev pub Adopted : DepthTable → Option DepthTable → Counts → DepthTable → Type 0
+  Adopted t None r t' = (t' ≡ t) × (r ≡ record { moved = 0; reparented = 0 })
   Adopted t (Some next) r t' = (t' ≡ next) × (r ≡ counts t next)
 
   -- the paths of the old table that still stand and add up are kept

@@ -3,6 +3,7 @@
 ghost use Rattle.solver.specs.Changing.{Adopted, SameSize};
 
 use change::{moved, reparented};
+use law::Counts;
 use measure::Measure;
 use table::DepthTable;
 
@@ -11,14 +12,20 @@ pub(crate) fn adopt<M: Measure>(
     measure: &M,
     table: &mut DepthTable,
     next: Option<DepthTable>,
-) -> (u16, u16)
+) -> Counts
     requires { SameSize M.Measure table.old next }
     ensures { Adopted M.Measure table.old next result table.new }
 {
     match next {
-        None => (0, 0),
+        None => Counts {
+            moved: 0,
+            reparented: 0,
+        },
         Some(next) => {
-            let counts = (moved(measure, table, &next), reparented(table, &next));
+            let counts = Counts {
+                moved: moved(measure, table, &next),
+                reparented: reparented(table, &next),
+            };
             *table = next;
             counts
         }

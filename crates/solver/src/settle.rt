@@ -9,6 +9,7 @@ use crate::adopt::adopt;
 use crate::solver::Solver;
 use crate::write::set_tie;
 use bounds::scope::Change;
+use law::Counts;
 use measure::{Amount, Measure};
 use store::TieStore;
 use update::Work;
@@ -21,7 +22,7 @@ impl<S: TieStore, M: Measure> Solver<S, M> {
         from: u16,
         to: u16,
         amount: Option<Amount>,
-    ) -> Result<(u16, u16), Work>
+    ) -> Result<Counts, Work>
         requires opened { self.old.state ≡ state.Open }
         requires start { from < (S.TieStore.meaning self.old.store).count }
         requires end { to < (S.TieStore.meaning self.old.store).count }

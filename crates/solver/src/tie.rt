@@ -8,7 +8,7 @@ ghost use Rattle.law.specs.declared.call.Call.TheVariants as call;
 ghost use Rattle.solver.specs.Model.{model};
 
 use crate::solver::Solver;
-use law::Refusal;
+use law::{Counts, Refusal};
 use measure::{Amount, Measure};
 use store::TieStore;
 use table::trail;
@@ -22,7 +22,7 @@ impl<S: TieStore, M: Measure> Solver<S, M> {
         to: u16,
         amount: Amount,
         cycle: &mut [u16],
-    ) -> Result<(u16, u16), Refusal>
+    ) -> Result<Counts, Refusal>
         ensures answered { Answered M.Measure (model S.TieStore self.old) (call.Tie from to amount (length cycle.old)) cycle.old (changed result) cycle.new (model S.TieStore self.new) }
         ensures logged { Logged M.Measure (model S.TieStore self.old) (call.Tie from to amount (length cycle.old)) (changed result) cycle.new (model S.TieStore self.new) }
     {
@@ -38,7 +38,7 @@ impl<S: TieStore, M: Measure> Solver<S, M> {
     }
 
     /// Takes the tie from one marker to another away: the same two counts.
-    pub fn untie(&mut self, from: u16, to: u16) -> Result<(u16, u16), Refusal>
+    pub fn untie(&mut self, from: u16, to: u16) -> Result<Counts, Refusal>
         ensures answered { Answered M.Measure (model S.TieStore self.old) (call.Untie from to) [] (changed result) [] (model S.TieStore self.new) }
         ensures logged { Logged M.Measure (model S.TieStore self.old) (call.Untie from to) (changed result) [] (model S.TieStore self.new) }
     {

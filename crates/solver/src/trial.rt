@@ -9,7 +9,7 @@ ghost use Rattle.solver.specs.Tokens.{tried, committed, ComesBack, Numbered};
 
 use crate::solver::Solver;
 use crate::token::{Returned, TrialToken};
-use law::{Refusal, State};
+use law::{Counts, Refusal, State};
 use measure::{Amount, Measure};
 use store::TieStore;
 
@@ -22,7 +22,7 @@ impl<S: TieStore, M: Measure> Solver<S, M> {
         to: u16,
         amount: Amount,
         cycle: &mut [u16],
-    ) -> Result<((u16, u16), TrialToken), Refusal>
+    ) -> Result<(Counts, TrialToken), Refusal>
         ensures answered { Answered M.Measure (model S.TieStore self.old) (call.Trial from to amount (length cycle.old)) cycle.old (tried result) cycle.new (model S.TieStore self.new) }
         ensures logged { Logged M.Measure (model S.TieStore self.old) (call.Trial from to amount (length cycle.old)) (tried result) cycle.new (model S.TieStore self.new) }
         ensures numbered { Numbered (model S.TieStore self.old).standing.number result }

@@ -9,14 +9,14 @@ ghost use Rattle.solver.specs.Tokens.{rolled_back, ComesBack};
 
 use crate::solver::Solver;
 use crate::token::{Returned, TrialToken};
-use law::{Refusal, State};
+use law::{Counts, Refusal, State};
 use measure::Measure;
 use store::TieStore;
 
 impl<S: TieStore, M: Measure> Solver<S, M> {
     /// Gives the tried pair what it had before: how many markers then have another depth, and how many another parent. A token
     /// that is not of the trial that is out comes back.
-    pub fn roll_back(&mut self, token: TrialToken) -> Result<(u16, u16), Returned>
+    pub fn roll_back(&mut self, token: TrialToken) -> Result<Counts, Returned>
         ensures answered { Answered M.Measure (model S.TieStore self.old) (call.RollBack token.number) [] (rolled_back result) [] (model S.TieStore self.new) }
         ensures logged { Logged M.Measure (model S.TieStore self.old) (call.RollBack token.number) (rolled_back result) [] (model S.TieStore self.new) }
         ensures back { ComesBack token result }

@@ -31,7 +31,7 @@ invariant_of-self g c =
     let s = held c.self.inside in
     let s' = held c.self-2.inside in
     let tied = rw (← c.self.view_is) at (rw (← c.self-2.view_is) at c.in_ok-counts.ensures.answered) in
-    let x = tie_accepted μ (model st s) t.from t.to t.amount (length before) before c.tie.new.cycle n.0 n.1 (model st s') tied in
+    let x = tie_accepted μ (model st s) t.from t.to t.amount (length before) before c.tie.new.cycle n.moved n.reparented (model st s') tied in
     trial_upheld st μ s s' c.self.invariant.suits c.self-2.invariant.suits t.from t.to t.amount (length before) c.amount-before.result c.amount-before.ensures x.0 x.1.standing
 
 pub returns : goal.returns
@@ -44,5 +44,5 @@ returns g c =
     let s = held c.self.inside in
     let s' = held c.self-2.inside in
     let tied = rw (← c.self.view_is) at (rw (← c.self-2.view_is) at c.in_ok-counts.ensures.answered) in
-    let told = trial_accepted μ (model st s) t.from t.to t.amount (length before) before c.tie.new.cycle n.0 n.1 (model st s') c.amount-before.result c.amount-before.ensures tied in
+    let told = trial_accepted μ (model st s) t.from t.to t.amount (length before) before c.tie.new.cycle n.moved n.reparented (model st s') c.amount-before.result c.amount-before.ensures tied in
     rw (← c.self.view_is) (record { answered = told; logged = goes_on μ (model st s) _ (call.Trial t.from t.to t.amount (length before)) before _ _ told; numbered = search rules })
