@@ -12,43 +12,36 @@ use measure::{Amount, Measure};
 use store::TieStore;
 
 impl<S: TieStore, M: Measure> Solver<S, M> {
-    // The tie from `a` to `b`, where its amount is not admitted.
-    fn bad_tie_at(&self, a: u16, b: u16) -> Option<Refusal>
-        ensures { result ≡ bad_tie M.Measure a b ((S.TieStore.meaning self.now.store).tie a b) }
+    // Whether the amount of the tie from `a` to `b`, if there is one, is admitted.
+    fn check_tie_at(&self, a: u16, b: u16) -> Result<(), Refusal>
+        ensures { result ≡ as_result (bad_tie M.Measure a b ((S.TieStore.meaning self.now.store).tie a b)) }
     {
         match self.store.amount(a, b) {
-            Some(amount) => {
-                if self.measure.admitted(amount) {
-                    return None;
-                }
-                Some(Refusal::BadTie { from: a, to: b })
+            Some(amount) if !self.measure.admitted(amount) => {
+                Err(Refusal::BadTie { from: a, to: b })
             }
-            None => None,
+            _ => Ok(()),
         }
     }
 
-    // The first such tie from `a`, by its end.
-    fn bad_tie_from(&self, a: u16) -> Option<Refusal>
-        ensures { result ≡ lowest (S.TieStore.meaning self.now.store).count (λ b. bad_tie M.Measure a b ((S.TieStore.meaning self.now.store).tie a b)) }
+    // The same of all ties from `a`, by their ends.
+    fn check_ties_from(&self, a: u16) -> Result<(), Refusal>
+        ensures { result ≡ as_result (lowest (S.TieStore.meaning self.now.store).count (λ b. bad_tie M.Measure a b ((S.TieStore.meaning self.now.store).tie a b))) }
     {
         for b in 0..self.store.marker_count() {
-            if let Some(why) = self.bad_tie_at(a, b) {
-                return Some(why);
-            }
+            self.check_tie_at(a, b)?;
         }
-        None
+        Ok(())
     }
 
-    // The first of all, by start and then by end.
-    fn bad_tie(&self) -> Option<Refusal>
-        ensures { result ≡ first_bad_tie M.Measure (S.TieStore.meaning self.now.store).count (S.TieStore.meaning self.now.store).tie }
+    // The same of all ties, by start and then by end.
+    fn check_ties(&self) -> Result<(), Refusal>
+        ensures { result ≡ as_result (first_bad_tie M.Measure (S.TieStore.meaning self.now.store).count (S.TieStore.meaning self.now.store).tie) }
     {
         for a in 0..self.store.marker_count() {
-            if let Some(why) = self.bad_tie_from(a) {
-                return Some(why);
-            }
+            self.check_ties_from(a)?;
         }
-        None
+        Ok(())
     }
 
     // Why the solver may not be opened with a buffer of this length, before anything is solved.
@@ -65,10 +58,7 @@ impl<S: TieStore, M: Measure> Solver<S, M> {
         if room < self.store.marker_count() as usize {
             return Err(Refusal::ShortBuffer);
         }
-        match self.bad_tie() {
-            Some(why) => Err(why),
-            None => Ok(()),
-        }
+        self.check_ties()
     }
 
     // Why the pair may be neither tied nor cleared.

@@ -68,12 +68,7 @@ impl<S: TieStore, M: Measure> Solver<S, M> {
             self.total,
         );
         for k in 0..4096usize {
-            match self.insert(table, k, cycle) {
-                Ok(next) => {
-                    table = next;
-                }
-                Err(length) => return Err(length),
-            }
+            table = self.insert(table, k, cycle)?;
         }
         Ok(table)
     }

@@ -1,4 +1,5 @@
 use Rattle.std.proofs.Common.{◌≡◌, ℕ, ◌+◌, List, set, replicate, refl, ap, ◌∙◌, subst, arith}
+use Rattle.std.proofs.lemmas.Result.{err_from_is_err_and}
 use Rattle.measure.specs.declared.Amount.{Amount}
 use Rattle.bounds.specs.Scopes.{in_scope}
 use Rattle.bounds.specs.declared.scope.Scope.TheVariants.{First}
@@ -25,16 +26,17 @@ loop-k-init g c =
       refl,
     )
 
-pub returns-in-Err : goal.returns-in-Err
-returns-in-Err g c =
+pub returns-in_err-table : goal.returns-in_err-table
+returns-in_err-table g c =
     let μ = g.M.Measure in
     let s = c.args.self.now in
     let m = g.S.TieStore.meaning s.store in
     let whole : Upheld g.S.TieStore μ c.args.self.now = rw (← c.self.view_is) c.self.invariant in
     let law = g.S.TieStore.lawful s.store whole.suits.sound in
-    let k = c.loop-k.k in
-    subst (λ (b : List ℕ). Witness μ.group m.count (bounds_of μ s.total m.tie) b c.insert.new.cycle c.in-Err.length) c.loop-k.invariant.1
-    (witness_all m law μ s.total (k + 1) c.loop-k.cycle c.insert.new.cycle c.in-Err.length c.in-Err.ensures)
+    let size = c.in_err-table.field-0.0 in
+    let p = err_from_is_err_and c.from_residual.result c.from_residual.ensures.1 in
+    rw (p.1, p.2) (subst (λ (b : List ℕ). Witness μ.group m.count (bounds_of μ s.total m.tie) b c.insert.new.cycle size) c.loop-k.invariant.1
+    (witness_all m law μ s.total (c.loop-k.k + 1) c.loop-k.cycle c.insert.new.cycle size c.in_err-table.ensures))
 
 pub returns : goal.returns
 returns g c =
