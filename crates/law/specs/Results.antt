@@ -2,14 +2,15 @@
 use Rattle.std.specs.Prelude.{ℕ, Ok, Err, Result}
 use Rattle.law.specs.declared.call.Answer.{Answer}
 use Rattle.law.specs.declared.call.Answer.TheVariants.{Refused, Opened, Changed, Length}
+use Rattle.law.specs.declared.call.Counts.{Counts}
 use Rattle.law.specs.declared.call.Refusal.{Refusal}
 
 abbrev pub opened : Result ℕ Refusal → Answer
 opened (Ok n) = Opened n
 opened (Err why) = Refused why
 
-abbrev pub changed : Result (ℕ × ℕ) Refusal → Answer
-changed (Ok counts) = Changed counts.0 counts.1
+abbrev pub changed : Result Counts Refusal → Answer
+changed (Ok counts) = Changed counts.moved counts.reparented
 changed (Err why) = Refused why
 
 abbrev pub read_path : Result ℕ Refusal → Answer

@@ -83,6 +83,13 @@ pub enum Call {
     },
 }
 
+/// How many markers have another depth after a change, and how many another parent.
+#[derive(Clone, Copy, PartialEq, Eq, Debug)]
+pub struct Counts {
+    pub moved: u16,
+    pub reparented: u16,
+}
+
 /// What a call answers.
 #[derive(Clone, Copy, PartialEq, Eq, Debug)]
 pub enum Answer {

@@ -6,4 +6,4 @@ pub mod call;
 pub mod code;
 pub mod theorems;
 
-pub use call::{Answer, Call, Entry, Refusal, State};
+pub use call::{Answer, Call, Counts, Entry, Refusal, State};

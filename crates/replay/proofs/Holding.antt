@@ -7,6 +7,7 @@ use Rattle.law.specs.declared.call.Answer.{Answer}
 use Rattle.law.specs.declared.call.Answer.TheVariants.{Refused, Changed}
 use Rattle.law.specs.declared.call.Call.{Call}
 use Rattle.law.specs.declared.call.Call.TheVariants as call
+use Rattle.law.specs.declared.call.Counts.{Counts}
 use Rattle.law.specs.declared.call.Refusal.{Refusal}
 use Rattle.law.specs.declared.call.Refusal.TheVariants.{NotNew, WrongToken}
 use Rattle.law.specs.declared.call.State.{State}
@@ -133,7 +134,7 @@ module _ {M : Type 0} (μ : measure.Ghosts M) (m m' : Model) where
       by state.Open e = absurd (true≢false (sym e))
       by (state.OnTrial a b w) e = refl
 
-  pub roll_back_holds : (n : ℕ) (token : TrialToken) (r : Result (ℕ × ℕ) Returned) → Answered μ m (call.RollBack n) [] (rolled_back r) [] m' → ComesBack token r → Holds m (Some token) → Holds m' (token_back r)
+  pub roll_back_holds : (n : ℕ) (token : TrialToken) (r : Result Counts Returned) → Answered μ m (call.RollBack n) [] (rolled_back r) [] m' → ComesBack token r → Holds m (Some token) → Holds m' (token_back r)
   roll_back_holds n token (Ok counts) x back h = by (first_refusal μ m.standing (call.RollBack n)) x.outcome
     where
       by : (o : Option Refusal) → Outcome μ o m (call.RollBack n) [] (rolled_back (Ok counts)) [] m' → on_trial m'.standing.state ≡ false

@@ -5,6 +5,7 @@ use Rattle.law.specs.declared.call.Answer.{Answer}
 use Rattle.law.specs.declared.call.Answer.TheVariants.{Changed, Committed, Refused}
 use Rattle.law.specs.declared.call.Call.{Call}
 use Rattle.law.specs.declared.call.Call.TheVariants as call
+use Rattle.law.specs.declared.call.Counts.{Counts}
 use Rattle.law.specs.declared.call.Entry.{Entry}
 use Rattle.law.specs.declared.call.Refusal.TheVariants.{NotOpen}
 use Rattle.law.specs.Calls.{Answered, Model}
@@ -80,12 +81,12 @@ module _ {M : Type 0} (μ : measure.Ghosts M) where
   Reached m (e ∷ log) m' = (m₁ : Model) × Reached m log m₁ × ((before : List ℕ) × Answered μ m₁ e.call before e.answer e.buffer m')
 
   -- nothing was out and nothing is done, or the trial is rolled back
-  abbrev pub Ended : Model → Option TrialToken → Option (ℕ × ℕ) → Model → Type 0
+  abbrev pub Ended : Model → Option TrialToken → Option Counts → Model → Type 0
   Ended m None None m' = m' ≡ m
   Ended m None (Some counts) m' = ⊥
   Ended m (Some token) None m' = ⊥
   Ended m (Some token) (Some counts) m' =
-      Answered μ m (call.RollBack token.number) [] (Changed counts.0 counts.1) [] m' × Logged μ m (call.RollBack token.number) (Changed counts.0 counts.1) [] m'
+      Answered μ m (call.RollBack token.number) [] (Changed counts.moved counts.reparented) [] m' × Logged μ m (call.RollBack token.number) (Changed counts.moved counts.reparented) [] m'
 
   -- nothing was out and nothing is done, or the trial is committed
   abbrev pub Kept : Model → Option TrialToken → Bool → Model → Type 0

@@ -2,8 +2,6 @@
 
 ghost use Rattle.std.specs.Prelude.{◌≡◌, ◌≤◌, length};
 ghost use Rattle.solver.specs.Model.{model};
-ghost use Rattle.solver.specs.Suits.{Suits};
-ghost use Rattle.solver.specs.Trials.{CanRollBack};
 ghost use Rattle.replay.specs.Replays.{capped, Holds, Made, room};
 
 use crate::calls::{commit, open, path, roll_back, tie, trial};
@@ -56,12 +54,8 @@ pub fn answer_to<S: TieStore, M: Measure>(
     token: Option<TrialToken>,
     buffer: &mut [u16],
 ) -> (Answer, Option<TrialToken>)
-    requires suits { Suits S.TieStore M.Measure solver.old }
-    requires trial { CanRollBack S.TieStore M.Measure solver.old }
     requires holds { Holds (model S.TieStore solver.old) token }
     requires fits { room call ≤ length buffer.old }
-    ensures suits { Suits S.TieStore M.Measure solver.new }
-    ensures trial { CanRollBack S.TieStore M.Measure solver.new }
     ensures made { Made M.Measure (model S.TieStore solver.old) call result.0 buffer.new (model S.TieStore solver.new) }
     ensures holds { Holds (model S.TieStore solver.new) result.1 }
 {

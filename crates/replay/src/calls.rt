@@ -3,12 +3,10 @@
 ghost use Rattle.std.specs.Prelude.{◌≡◌, ◌≤◌, [], length};
 ghost use Rattle.law.specs.declared.call.Call.TheVariants as call;
 ghost use Rattle.solver.specs.Model.{model};
-ghost use Rattle.solver.specs.Suits.{Suits};
-ghost use Rattle.solver.specs.Trials.{CanRollBack};
 ghost use Rattle.replay.specs.Replays.{Holds, Made};
 
 use crate::results::{change, committing, opening, path_length, rolling_back};
-use law::{Answer, Refusal};
+use law::{Answer, Counts, Refusal};
 use measure::{Amount, Measure};
 use solver::{Solver, TrialToken};
 use store::TieStore;
@@ -18,11 +16,7 @@ pub(crate) fn open<S: TieStore, M: Measure>(
     room: usize,
     buffer: &mut [u16],
 ) -> Answer
-    requires suits { Suits S.TieStore M.Measure solver.old }
-    requires trial { CanRollBack S.TieStore M.Measure solver.old }
     requires fits { room ≤ length buffer.old }
-    ensures suits { Suits S.TieStore M.Measure solver.new }
-    ensures trial { CanRollBack S.TieStore M.Measure solver.new }
     ensures made { Made M.Measure (model S.TieStore solver.old) (call.Open room) result buffer.new (model S.TieStore solver.new) }
 {
     opening(solver.open(&mut buffer[0..room]))
@@ -36,11 +30,7 @@ pub(crate) fn tie<S: TieStore, M: Measure>(
     room: usize,
     buffer: &mut [u16],
 ) -> Answer
-    requires suits { Suits S.TieStore M.Measure solver.old }
-    requires trial { CanRollBack S.TieStore M.Measure solver.old }
     requires fits { room ≤ length buffer.old }
-    ensures suits { Suits S.TieStore M.Measure solver.new }
-    ensures trial { CanRollBack S.TieStore M.Measure solver.new }
     ensures made { Made M.Measure (model S.TieStore solver.old) (call.Tie from to amount room) result buffer.new (model S.TieStore solver.new) }
 {
     change(solver.tie(from, to, amount, &mut buffer[0..room]))
@@ -52,7 +42,6 @@ pub(crate) fn path<S: TieStore, M: Measure>(
     room: usize,
     buffer: &mut [u16],
 ) -> Answer
-    requires suits { Suits S.TieStore M.Measure solver.now }
     requires fits { room ≤ length buffer.old }
     ensures { Made M.Measure (model S.TieStore solver.now) (call.Path marker room) result buffer.new (model S.TieStore solver.now) }
 {
@@ -68,17 +57,13 @@ pub(crate) fn trial<S: TieStore, M: Measure>(
     buffer: &mut [u16],
     token: Option<TrialToken>,
 ) -> (Answer, Option<TrialToken>)
-    requires suits { Suits S.TieStore M.Measure solver.old }
-    requires trial { CanRollBack S.TieStore M.Measure solver.old }
     requires holds { Holds (model S.TieStore solver.old) token }
     requires fits { room ≤ length buffer.old }
-    ensures suits { Suits S.TieStore M.Measure solver.new }
-    ensures trial { CanRollBack S.TieStore M.Measure solver.new }
     ensures made { Made M.Measure (model S.TieStore solver.old) (call.Trial from to amount room) result.0 buffer.new (model S.TieStore solver.new) }
     ensures holds { Holds (model S.TieStore solver.new) result.1 }
 {
     match solver.trial(from, to, amount, &mut buffer[0..room]) {
-        Ok(((moved, reparented), new)) => match token {
+        Ok((Counts { moved, reparented }, new)) => match token {
             None => (Answer::Changed { moved, reparented }, Some(new)),
             // while a trial is out no other is accepted
             Some(_held) => unreachable(),
@@ -93,11 +78,7 @@ pub(crate) fn commit<S: TieStore, M: Measure>(
     number: u32,
     token: Option<TrialToken>,
 ) -> (Answer, Option<TrialToken>)
-    requires suits { Suits S.TieStore M.Measure solver.old }
-    requires trial { CanRollBack S.TieStore M.Measure solver.old }
     requires holds { Holds (model S.TieStore solver.old) token }
-    ensures suits { Suits S.TieStore M.Measure solver.new }
-    ensures trial { CanRollBack S.TieStore M.Measure solver.new }
     ensures made { Made M.Measure (model S.TieStore solver.old) (call.Commit number) result.0 [] (model S.TieStore solver.new) }
     ensures holds { Holds (model S.TieStore solver.new) result.1 }
 {
@@ -119,11 +100,7 @@ pub(crate) fn roll_back<S: TieStore, M: Measure>(
     number: u32,
     token: Option<TrialToken>,
 ) -> (Answer, Option<TrialToken>)
-    requires suits { Suits S.TieStore M.Measure solver.old }
-    requires trial { CanRollBack S.TieStore M.Measure solver.old }
     requires holds { Holds (model S.TieStore solver.old) token }
-    ensures suits { Suits S.TieStore M.Measure solver.new }
-    ensures trial { CanRollBack S.TieStore M.Measure solver.new }
     ensures made { Made M.Measure (model S.TieStore solver.old) (call.RollBack number) result.0 [] (model S.TieStore solver.new) }
     ensures holds { Holds (model S.TieStore solver.new) result.1 }
 {

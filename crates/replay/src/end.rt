@@ -2,10 +2,9 @@
 
 ghost use Rattle.std.specs.Prelude.{◌≡◌};
 ghost use Rattle.solver.specs.Model.{model};
-ghost use Rattle.solver.specs.Suits.{Suits};
-ghost use Rattle.solver.specs.Trials.{CanRollBack};
 ghost use Rattle.replay.specs.Replays.{Ended, Holds, Kept};
 
+use law::Counts;
 use measure::Measure;
 use solver::{Solver, TrialToken};
 use store::TieStore;
@@ -14,12 +13,8 @@ use store::TieStore;
 pub fn end_trial<S: TieStore, M: Measure>(
     solver: &mut Solver<S, M>,
     token: Option<TrialToken>,
-) -> Option<(u16, u16)>
-    requires suits { Suits S.TieStore M.Measure solver.old }
-    requires trial { CanRollBack S.TieStore M.Measure solver.old }
+) -> Option<Counts>
     requires holds { Holds (model S.TieStore solver.old) token }
-    ensures suits { Suits S.TieStore M.Measure solver.new }
-    ensures trial { CanRollBack S.TieStore M.Measure solver.new }
     ensures ended { Ended M.Measure (model S.TieStore solver.old) token result (model S.TieStore solver.new) }
 {
     match token {
@@ -37,11 +32,7 @@ pub fn keep_trial<S: TieStore, M: Measure>(
     solver: &mut Solver<S, M>,
     token: Option<TrialToken>,
 ) -> bool
-    requires suits { Suits S.TieStore M.Measure solver.old }
-    requires trial { CanRollBack S.TieStore M.Measure solver.old }
     requires holds { Holds (model S.TieStore solver.old) token }
-    ensures suits { Suits S.TieStore M.Measure solver.new }
-    ensures trial { CanRollBack S.TieStore M.Measure solver.new }
     ensures kept { Kept M.Measure (model S.TieStore solver.old) token result (model S.TieStore solver.new) }
 {
     match token {

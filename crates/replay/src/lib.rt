@@ -5,8 +5,6 @@
 ghost use Rattle.std.specs.Prelude.{◌≡◌, ℕ, slice_index_or};
 ghost use Rattle.law.specs.Telling.{Ran};
 ghost use Rattle.solver.specs.Model.{model};
-ghost use Rattle.solver.specs.Suits.{Suits};
-ghost use Rattle.solver.specs.Trials.{CanRollBack};
 ghost use Rattle.replay.specs.Replays.{blank, capped, Holds, log_of, Replayed};
 
 use crate::answer::cap;
@@ -32,11 +30,7 @@ pub fn replay<S: TieStore, M: Measure>(
     token: Option<TrialToken>,
     entries: &mut [Entry],
 ) -> Option<TrialToken>
-    requires suits { Suits S.TieStore M.Measure solver.old }
-    requires trial { CanRollBack S.TieStore M.Measure solver.old }
     requires holds { Holds (model S.TieStore solver.old) token }
-    ensures suits { Suits S.TieStore M.Measure solver.new }
-    ensures trial { CanRollBack S.TieStore M.Measure solver.new }
     ensures holds { Holds (model S.TieStore solver.new) result }
     ensures calls { (k : ℕ) → (slice_index_or entries.new k blank).call ≡ capped (slice_index_or entries.old k blank).call }
     ensures ran { Ran M.Measure (model S.TieStore solver.old) (log_of entries.new) (model S.TieStore solver.new) }

@@ -6,7 +6,7 @@ ghost use Rattle.solver.specs.Model.{read_row};
 ghost use Rattle.solver.specs.Tokens.{committed, rolled_back};
 ghost use Rattle.replay.specs.Replays.{token_back};
 
-use law::{Answer, Refusal};
+use law::{Answer, Counts, Refusal};
 use solver::{Returned, TrialToken};
 use table::Row;
 
@@ -19,11 +19,11 @@ pub(crate) fn opening(r: Result<u16, Refusal>) -> Answer
     }
 }
 
-pub(crate) fn change(r: Result<(u16, u16), Refusal>) -> Answer
+pub(crate) fn change(r: Result<Counts, Refusal>) -> Answer
     ensures { result ≡ changed r }
 {
     match r {
-        Ok((moved, reparented)) => Answer::Changed { moved, reparented },
+        Ok(Counts { moved, reparented }) => Answer::Changed { moved, reparented },
         Err(why) => Answer::Refused { why },
     }
 }
@@ -59,12 +59,12 @@ pub(crate) fn committing(r: Result<(), Returned>) -> (Answer, Option<TrialToken>
     }
 }
 
-pub(crate) fn rolling_back(r: Result<(u16, u16), Returned>) -> (Answer, Option<TrialToken>)
+pub(crate) fn rolling_back(r: Result<Counts, Returned>) -> (Answer, Option<TrialToken>)
     ensures answer { result.0 ≡ rolled_back r }
     ensures held { result.1 ≡ token_back r }
 {
     match r {
-        Ok((moved, reparented)) => (Answer::Changed { moved, reparented }, None),
+        Ok(Counts { moved, reparented }) => (Answer::Changed { moved, reparented }, None),
         Err(Returned { why, token }) => (Answer::Refused { why }, Some(token)),
     }
 }

@@ -4,8 +4,6 @@ ghost use Rattle.std.specs.Prelude.{◌≡◌};
 ghost use Rattle.law.specs.Law.{Lawful};
 ghost use Rattle.law.specs.declared.call.State.TheVariants as state;
 ghost use Rattle.solver.specs.Model.{model, standing_of};
-ghost use Rattle.solver.specs.Suits.{Suits};
-ghost use Rattle.solver.specs.Trials.{CanRollBack};
 ghost use Rattle.replay.specs.Replays.{Holds, log_of};
 
 use crate::replay;
@@ -15,7 +13,7 @@ use solver::{Solver, TrialToken};
 use store::TieStore;
 
 /// A solver after a list of calls, with the token of the trial that is out, if one is.
-pub struct Run<S, M> {
+pub struct Run<S: TieStore, M: Measure> {
     pub solver: Solver<S, M>,
     pub token: Option<TrialToken>,
 }
@@ -25,11 +23,7 @@ fn run_new<S: TieStore, M: Measure>(
     solver: &mut Solver<S, M>,
     entries: &mut [Entry],
 ) -> Option<TrialToken>
-    requires suits { Suits S.TieStore M.Measure solver.old }
-    requires trial { CanRollBack S.TieStore M.Measure solver.old }
     requires new { (model S.TieStore solver.old).standing.state ≡ state.New }
-    ensures suits { Suits S.TieStore M.Measure solver.new }
-    ensures trial { CanRollBack S.TieStore M.Measure solver.new }
     ensures holds { Holds (model S.TieStore solver.new) result }
     ensures lawful { Lawful M.Measure (model S.TieStore solver.old).standing (log_of entries.new) }
 {
@@ -46,8 +40,6 @@ pub fn replay_new<S: TieStore, M: Measure>(
     entries: &mut [Entry],
 ) -> Run<S, M>
     requires sound { S.TieStore.sound store }
-    ensures suits { Suits S.TieStore M.Measure result.solver }
-    ensures trial { CanRollBack S.TieStore M.Measure result.solver }
     ensures holds { Holds (model S.TieStore result.solver) result.token }
     ensures lawful { Lawful M.Measure (standing_of (S.TieStore.meaning store) total_depth number state.New) (log_of entries.new) }
 {

@@ -9,14 +9,16 @@ use Rattle.graph.specs.Graph.{PathTo}
 use Rattle.graph.specs.Tree.{path_to}
 use Rattle.table.specs.Climb.{deep, up}
 use Rattle.table.specs.declared.table.DepthTable.{DepthTable}
-use Rattle.law.specs.Calls.{Keeps, PathAt, tally}
+use Rattle.law.specs.Calls.{changes_after, Keeps, PathAt, tally}
+use Rattle.law.specs.Calls.Kind.{change}
 use Rattle.law.specs.Amounts.{same_value}
 use Rattle.law.specs.Refusals.{is_new}
 use Rattle.law.specs.Standing.{bounds_of, put, Standing}
+use Rattle.law.specs.declared.call.Counts.{Counts}
 use Rattle.law.specs.declared.call.State.TheVariants as state
-use Rattle.solver.specs.declared.solver.Solver.{Solver}
+use Rattle.solver.specs.Held.{Held}
 use Rattle.change.proofs.Tallies.{none_moved, none_reparented}
-use Rattle.solver.specs.Changing.{counts, KeptPaths, with_table}
+use Rattle.solver.specs.Changing.{counts, KeptPaths}
 use Rattle.solver.specs.Model.{model, standing_of}
 use Rattle.solver.specs.Settling.{Settled}
 use Rattle.solver.specs.Suits.{Admitted, Suits, TableSuits}
@@ -24,19 +26,19 @@ use Rattle.solver.specs.Writing.{changed_meaning}
 use Rattle.solver.proofs.Openings.{table_of}
 
 -- a table that stays has no new rows
-pub no_counts : {M : Type 0} (μ : MeasureGhosts M) (t : DepthTable) → counts μ t t ≡ (0, 0)
-no_counts μ t = ap (λ (i : ℕ). (i, tally t.n (λ k. not (eqb (up t.rows k) (up t.rows k))))) (none_moved μ t.n (deep t.rows)) ∙ ap (λ (i : ℕ). (0, i)) (none_reparented t.n (up t.rows))
+pub no_counts : {M : Type 0} (μ : MeasureGhosts M) (t : DepthTable) → counts μ t t ≡ record { moved = 0; reparented = 0 }
+no_counts μ t = ap (λ (i : ℕ). record { moved = i; reparented = tally t.n (λ k. not (eqb (up t.rows k) (up t.rows k))) }) (none_moved μ t.n (deep t.rows)) ∙ ap (λ (i : ℕ). record { moved = 0; reparented = i }) (none_reparented t.n (up t.rows))
 
-module _ {S M : Type 0} (st : StoreGhosts S) (μ : MeasureGhosts M) (s : Solver S M) (suits : Suits st μ s) (opened : is_new s.state ≡ false) (a b : ℕ) (o : Option Amount)
+module _ {S M : Type 0} (st : StoreGhosts S) (μ : MeasureGhosts M) (s : Held S) (suits : Suits st μ s) (opened : is_new s.state ≡ false) (a b : ℕ) (o : Option Amount)
     (admitted : (w : Amount) → o ≡ Some w → μ.admits w ≡ true) (store : S) (sound : st.sound store)
     (meaning : st.meaning store ≡ changed_meaning (st.meaning s.store) a b o) (table : DepthTable)
     (fits : TableSuits μ s.total (st.meaning s.store).count (set_tie (st.meaning s.store).tie a b o) table) where
   abbrev m : StoreMeaning
   m = st.meaning s.store
 
-  -- the solver, once the store is written and the table taken over
-  abbrev pub after : Solver S M
-  after = with_table μ (record { store = store; measure = s.measure; total = s.total; number = s.number; state = s.state; changes = s.changes; table = s.table }) table
+  -- the solver, once the store is written, the change counted and the table taken over
+  abbrev pub after : Held S
+  after = record { store = store; total = s.total; number = s.number; state = s.state; changes = changes_after change s.changes; table = table }
 
   after_fits : TableSuits μ s.total (st.meaning store).count (st.meaning store).tie table
   after_fits = subst (λ (k : StoreMeaning). TableSuits μ s.total k.count k.tie table) (sym meaning) fits
@@ -68,10 +70,10 @@ module _ {S M : Type 0} (st : StoreGhosts S) (μ : MeasureGhosts M) (s : Solver 
         let same = subst (λ (i : ℕ). PathTo μ.group i (bounds_of μ s.total (set_tie (st.meaning s.store).tie a b o)) (path_to (up s.table.rows) i k) k (μ.value (deep table.rows k)) → path_to (up table.rows) i k ≡ path_to (up s.table.rows) i k) n (kept k inner) in
         subst (λ (i : ℕ). path_to (up table.rows) i k ≡ path_to (up s.table.rows) (st.meaning s.store).count k) (sym (ap (λ (x : Standing). x.count) after_standing)) (same old)
 
-    pub after_settled : s.state ≡ state.Open → (r : ℕ × ℕ) → r ≡ counts μ s.table table → Settled μ (model st s) a b o r (model st after)
+    pub after_settled : s.state ≡ state.Open → (r : Counts) → r ≡ counts μ s.table table → Settled μ (model st s) a b o r (model st after)
     after_settled open-now r counted = record {
       standing = after_standing ∙ ap (put (model st s).standing a b o) open-now;
       table = (table_of μ (model st after).standing table after_fits, after_keeps);
       changes = refl;
-      counted = counted ∙ ap (λ (i : ℕ). (tally i (λ k. not (same_value μ (deep s.table.rows k) (deep table.rows k))), tally i (λ k. not (eqb (up s.table.rows k) (up table.rows k))))) suits.same;
+      counted = counted ∙ ap (λ (i : ℕ). record { moved = tally i (λ k. not (same_value μ (deep s.table.rows k) (deep table.rows k))); reparented = tally i (λ k. not (eqb (up s.table.rows k) (up table.rows k))) }) suits.same;
     }

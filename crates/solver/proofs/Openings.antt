@@ -22,10 +22,11 @@ use Rattle.law.specs.declared.call.Refusal.TheVariants.{BadAmount, BadTie, Contr
 use Rattle.law.specs.declared.call.State.{State}
 use Rattle.law.specs.declared.call.State.TheVariants as state
 use Rattle.bounds.specs.Small.{BoundsSound}
-use Rattle.solver.specs.declared.solver.Solver.{Solver}
+use Rattle.solver.specs.Held.{Held}
 use Rattle.solver.specs.Model.{model}
 use Rattle.solver.specs.Opening.{as_result, opening_refusal, Witness}
 use Rattle.solver.specs.Suits.{Admitted, Suits, TableSuits}
+use Rattle.solver.specs.Trials.{Upheld}
 use Rattle.law.proofs.Answers.{accepted, contradicted, skips}
 use Rattle.law.proofs.Scans.{lowest_some}
 use Rattle.law.proofs.Scans as scans
@@ -102,32 +103,28 @@ table_of μ s table suits =
     (subst (λ (i : ℕ). Solved μ.group i (bounds_of μ s.total s.ties) (λ z. μ.value (deep table.rows z)) (up table.rows)) suits.same suits.solved)
     (λ k h. wider_to μ.laws.wider 63 256 _ (omega arith) (suits.depths k (subst (λ (i : ℕ). k < i) (sym suits.same) h)))
 
-module _ {S M : Type 0} (st : StoreGhosts S) (μ : MeasureGhosts M) (s : Solver S M) (suits : Suits st μ s) (new : s.state ≡ state.New) (before : List ℕ)
-    (none : opening_refusal μ s.total (st.meaning s.store) (length before) ≡ None) where
-  no_refusal : first_refusal μ (model st s).standing (call.Open (length before)) ≡ None
-  no_refusal =
-      skips (not (is_new s.state)) NotNew
-      (when (not (μ.admits s.total) || at_most μ s.total μ.zero) BadAmount
-      ∷ when (ltb (length before) (st.meaning s.store).count) ShortBuffer
-      ∷ first_bad_tie μ (st.meaning s.store).count (st.meaning s.store).tie
-      ∷ [])
-      (ap (λ (i : State). not (is_new i)) new)
-      ∙ none
+-- an opening that passed every check
+module _ {S M : Type 0} (st : StoreGhosts S) (μ : MeasureGhosts M) (s : Held S) (before : List ℕ) (none : first_refusal μ (model st s).standing (call.Open (length before)) ≡ None) where
+  pub opening_passed : opening_refusal μ s.total (st.meaning s.store) (length before) ≡ None
+  opening_passed = (passed (not (is_new s.state)) NotNew _ none).1
 
   module _ (table : DepthTable) (solved : TableSuits μ s.total (st.meaning s.store).count (st.meaning s.store).tie table) where
-    abbrev opened : Solver S M
-    opened = record { store = s.store; measure = s.measure; total = s.total; number = s.number; state = state.Open; changes = s.changes; table = table }
+    abbrev opened : Held S
+    opened = record { store = s.store; total = s.total; number = s.number; state = state.Open; changes = s.changes; table = table }
 
-    pub opened_suits : Suits st μ opened
-    opened_suits = record {
-      sound = suits.sound;
-      same = solved.same;
-      table = λ _. solved;
-      amounts = λ _. all_admitted μ s.total (st.meaning s.store) (st.lawful s.store suits.sound) (length before) none;
+    pub opened_upheld : st.sound s.store → Upheld st μ opened
+    opened_upheld sound = record {
+      suits = record {
+        sound = sound;
+        same = solved.same;
+        table = λ _. solved;
+        amounts = λ _. all_admitted μ s.total (st.meaning s.store) (st.lawful s.store sound) (length before) opening_passed;
+      };
+      trial = tt;
     }
 
     pub opened_answered : (n : ℕ) (after : List ℕ) → n ≡ table.n → after ≡ before → Answered μ (model st s) (call.Open (length before)) before (answer.Opened n) after (model st opened)
-    opened_answered n after count same = accepted μ (model st s) (call.Open (length before)) before (answer.Opened n) after (model st opened) no_refusal
+    opened_answered n after count same = accepted μ (model st s) (call.Open (length before)) before (answer.Opened n) after (model st opened) none
         (record {
           standing = refl;
           table = table_of μ (model st opened).standing table solved;
@@ -138,7 +135,7 @@ module _ {S M : Type 0} (st : StoreGhosts S) (μ : MeasureGhosts M) (s : Solver 
 
   pub contradiction_answered : (after : List ℕ) (size : ℕ) → Witness μ.group (st.meaning s.store).count (bounds_of μ s.total (st.meaning s.store).tie) before after size
       → Answered μ (model st s) (call.Open (length before)) before (answer.Refused (Contradiction size)) after (model st s)
-  contradiction_answered after size v = contradicted μ (model st s) (call.Open (length before)) before (answer.Refused (Contradiction size)) after (model st s) no_refusal
+  contradiction_answered after size v = contradicted μ (model st s) (call.Open (length before)) before (answer.Refused (Contradiction size)) after (model st s) none
       (record {
         markers = v.markers;
         sum = v.sum;

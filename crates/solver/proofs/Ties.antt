@@ -16,25 +16,27 @@ use Rattle.table.proofs.Ways.{length_down}
 use Rattle.update.specs.Lowering.{NegativeCycle}
 use Rattle.update.proofs.Cycles.{cycle_first}
 use Rattle.law.specs.Calls.{answer_of, Answered, buffer_after, changes_after, EndsWith, Kind, kind, Model, moved, over_front, reparented, Table}
-use Rattle.law.specs.Refusals.{first, first_refusal, is_new, on_trial, when}
+use Rattle.law.specs.Refusals.{first, first_refusal, is_new, on_trial, pair_checks, when}
 use Rattle.law.specs.Standing.{bounds_of}
 use Rattle.law.specs.declared.call.Answer.TheVariants as answer
 use Rattle.law.specs.declared.call.Call.TheVariants as call
 use Rattle.law.specs.declared.call.Refusal.{Refusal}
 use Rattle.law.specs.declared.call.Refusal.TheVariants.{BadAmount, ClosedMarker, Contradiction, NotOpen, PairEmpty, SameMarker, ShortBuffer, StoreFull, TrialOut, UnknownMarker}
+use Rattle.law.specs.declared.call.State.{State}
+use Rattle.law.specs.declared.call.Counts.{Counts}
 use Rattle.law.specs.declared.call.State.TheVariants as state
 use Rattle.law.proofs.Answers.{contradicted, ends_with_last, skips}
 use Rattle.bounds.proofs.Limits.{cleared_raised}
-use Rattle.solver.specs.declared.solver.Solver.{Solver}
+use Rattle.solver.specs.Held.{Held}
 use Rattle.solver.specs.Changing.{pair_refusal, tie_refusal, untie_refusal}
 use Rattle.solver.specs.Model.{model}
-use Rattle.solver.specs.Suits.{Suits}
+use Rattle.solver.specs.Suits.{TableSuits}
 use Rattle.solver.specs.Writing.{changed_meaning, set_answer}
 use Rattle.solver.specs.Settling.{Settled}
 use Rattle.law.specs.Calls.Kind.{change}
 use Rattle.law.specs.declared.call.Call.{Call}
 use Rattle.law.proofs.Answers.{accepted}
-use Rattle.law.specs.Standing.{put, took}
+use Rattle.law.specs.Standing.{put, Standing, took}
 use Rattle.solver.proofs.Openings.{passed}
 
 pub not-false : (b : Bool) → not b ≡ false → b ≡ true
@@ -118,16 +120,16 @@ module _ (m : StoreMeaning) (a b : ℕ) (none : untie_refusal m a b ≡ None) wh
   pair_end = end_known m a b (when (not (is_some (m.tie a b))) PairEmpty ∷ []) none
 
 -- a change that has settled is what an accepted call asks for
-pub settled_answered : {M : Type 0} (μ : MeasureGhosts M) (m m' : Model) (a b : ℕ) (o : Option Amount) (r : ℕ × ℕ) → Settled μ m a b o r m'
+pub settled_answered : {M : Type 0} (μ : MeasureGhosts M) (m m' : Model) (a b : ℕ) (o : Option Amount) (r : Counts) → Settled μ m a b o r m'
     → (c : Call) (before : List ℕ) → first_refusal μ m.standing c ≡ None → kind c ≡ change → took c m.standing ≡ put m.standing a b o state.Open
     → answer_of μ c m m' ≡ answer.Changed (moved μ m m') (reparented μ m m') → buffer_after c m before ≡ before
-    → Answered μ m c before (answer.Changed r.0 r.1) before m'
+    → Answered μ m c before (answer.Changed r.moved r.reparented) before m'
 settled_answered μ m m' a b o r h c before none is-change takes answers keeps-buffer = accepted μ m c before _ before m' none
     (record {
       standing = h.standing ∙ sym takes;
       table = subst (λ (k : Kind). Table μ k m m') (sym is-change) h.table;
       changes = h.changes ∙ ap (λ (k : Kind). changes_after k m.changes) (sym is-change);
-      answered = ap (λ (p : ℕ × ℕ). answer.Changed p.0 p.1) h.counted ∙ sym answers;
+      answered = ap (λ (p : Counts). answer.Changed p.moved p.reparented) h.counted ∙ sym answers;
       buffer = sym keeps-buffer;
     })
 
@@ -135,23 +137,29 @@ ends_so : (g : OrderedGroup) (n : ℕ) (w : Weight g) (q : ℕ → ℕ) (a b k :
 ends_so g n w q a b zero s cycle = absurd cycle
 ends_so g n w q a b (suc k) s cycle = ends_with_last (b ∷ way q k (q a)) a
 
-module _ {S M : Type 0} (st : StoreGhosts S) (μ : MeasureGhosts M) (s : Solver S M) (suits : Suits st μ s) (open-now : s.state ≡ state.Open) (a b : ℕ) where
-  pub not_new : is_new s.state ≡ false
-  not_new = ap is_new open-now
+is_open : (x : State) → is_new x ≡ false → on_trial x ≡ false → x ≡ state.Open
+is_open state.New n t = absurd (true≢false n)
+is_open state.Open n t = refl
+is_open (state.OnTrial a b w) n t = absurd (true≢false t)
 
-  -- an open solver checks the pair first
-  pub tie_first : (w : Amount) (room : ℕ) → first_refusal μ (model st s).standing (call.Tie a b w room) ≡ tie_refusal μ (st.meaning s.store) a b w room
-  tie_first w room = skips (is_new s.state) NotOpen _ not_new ∙ skips (on_trial s.state) TrialOut _ (ap on_trial open-now)
+-- what the checks of a pair leave: an open solver, and the pair's own checks
+module _ {M : Type 0} (μ : MeasureGhosts M) (s : Standing) (a b : ℕ) (rest : List (Option Refusal)) (none : first (pair_checks μ s a b rest) ≡ None) where
+  new_passed : (is_new s.state ≡ false) × (first (when (on_trial s.state) TrialOut ∷ when (not (ltb a s.count && ltb b s.count)) UnknownMarker ∷ when (eqb a b) SameMarker ∷ when (s.closed a || s.closed b) ClosedMarker ∷ rest) ≡ None)
+  new_passed = passed (is_new s.state) NotOpen _ none
 
-  pub untie_first : first_refusal μ (model st s).standing (call.Untie a b) ≡ untie_refusal (st.meaning s.store) a b
-  untie_first = skips (is_new s.state) NotOpen _ not_new ∙ skips (on_trial s.state) TrialOut _ (ap on_trial open-now)
+  pub pair_open : s.state ≡ state.Open
+  pair_open = is_open s.state new_passed.0 (passed (on_trial s.state) TrialOut _ new_passed.1).0
 
-  pub tie_contradicted : (w : Amount) (before after : List ℕ) (size : ℕ) (q : ℕ → ℕ) → tie_refusal μ (st.meaning s.store) a b w (length before) ≡ None
+  pub pair_passed : first (when (not (ltb a s.count && ltb b s.count)) UnknownMarker ∷ when (eqb a b) SameMarker ∷ when (s.closed a || s.closed b) ClosedMarker ∷ rest) ≡ None
+  pair_passed = (passed (on_trial s.state) TrialOut _ new_passed.1).1
+
+module _ {S M : Type 0} (st : StoreGhosts S) (μ : MeasureGhosts M) (s : Held S) (a b : ℕ) where
+  pub tie_contradicted : (w : Amount) (before after : List ℕ) (size : ℕ) (q : ℕ → ℕ) → first_refusal μ (model st s).standing (call.Tie a b w (length before)) ≡ None
       → NegativeCycle μ.group (st.meaning s.store).count (bounds_of μ s.total (set_tie (st.meaning s.store).tie a b (Some w))) q a b
       → ((i : ℕ) → FirstClimb q i a b → size ≡ i + 1) → ((i : ℕ) → FirstClimb q i a b → after ≡ over_front (b ∷ way q i a) before)
       → Answered μ (model st s) (call.Tie a b w (length before)) before (answer.Refused (Contradiction size)) after (model st s)
   tie_contradicted w before after size q none c counted written =
-      contradicted μ (model st s) (call.Tie a b w (length before)) before (answer.Refused (Contradiction size)) after (model st s) (tie_first w (length before) ∙ none)
+      contradicted μ (model st s) (call.Tie a b w (length before)) before (answer.Refused (Contradiction size)) after (model st s) none
       (record {
         markers = b ∷ way q c.up a;
         sum = c.sum;
@@ -168,11 +176,10 @@ module _ {S M : Type 0} (st : StoreGhosts S) (μ : MeasureGhosts M) (s : Solver 
       first_climb = cycle_first μ.group _ _ q a b c
 
   -- an untying never contradicts
-  pub untie_fits : (q : ℕ → ℕ) → NegativeCycle μ.group (st.meaning s.store).count (bounds_of μ s.total (set_tie (st.meaning s.store).tie a b None)) q a b → ⊥
-  untie_fits q c =
+  pub untie_fits : TableSuits μ s.total (st.meaning s.store).count (st.meaning s.store).tie s.table → (q : ℕ → ℕ) → NegativeCycle μ.group (st.meaning s.store).count (bounds_of μ s.total (set_tie (st.meaning s.store).tie a b None)) q a b → ⊥
+  untie_fits old q c =
       let t = (st.meaning s.store).tie in
       let n = (st.meaning s.store).count in
-      let old = suits.table not_new in
       let fits = subst (λ (i : ℕ). Fits μ.group i (bounds_of μ s.total t) (λ z. μ.value (deep s.table.rows z))) old.same old.solved.fits in
       negative_cycle_refutes μ.group n (bounds_of μ s.total (set_tie t a b None)) (b ∷ way q c.up a) c.sum c.cycle c.negative (λ z. μ.value (deep s.table.rows z))
       (raised_fits μ.group n (bounds_of μ s.total t) (bounds_of μ s.total (set_tie t a b None)) (λ z. μ.value (deep s.table.rows z)) (cleared_raised μ s.total t a b n) fits)

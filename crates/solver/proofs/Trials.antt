@@ -17,14 +17,15 @@ use Rattle.law.specs.declared.call.Answer.TheVariants as answer
 use Rattle.law.specs.declared.call.Call.TheVariants as call
 use Rattle.law.specs.declared.call.Refusal.{Refusal}
 use Rattle.law.specs.declared.call.Refusal.TheVariants.{NotOpen, TrialOut, WrongToken}
+use Rattle.law.specs.declared.call.Counts.{Counts}
 use Rattle.law.specs.declared.call.State.TheVariants as state
 use Rattle.law.proofs.Answers.{skips}
-use Rattle.solver.specs.declared.solver.Solver.{Solver}
+use Rattle.solver.specs.Held.{Held}
 use Rattle.solver.specs.Changing.{tie_refusal, untie_refusal}
 use Rattle.solver.specs.Settling.{Settled}
 use Rattle.solver.specs.Model.{model}
 use Rattle.solver.specs.Suits.{Suits}
-use Rattle.solver.specs.Trials.{CanRollBack, StateSuits, TrialSuits}
+use Rattle.solver.specs.Trials.{CanRollBack, StateSuits, TrialSuits, Upheld}
 use Rattle.solver.proofs.Openings.{passed}
 use Rattle.solver.proofs.Ties.{settled_answered, tie_stands}
 
@@ -95,7 +96,7 @@ set_back t a b o was is = λ i x y. by x y (cases_Bool (eqb x a && eqb y b)) i
 abbrev meaning_of : Standing → StoreMeaning
 meaning_of x = record { count = x.count; closed = x.closed; tie = x.ties; free = x.free }
 
-module _ {S M : Type 0} (st : StoreGhosts S) (μ : MeasureGhosts M) (s s' : Solver S M) (suits : Suits st μ s) (suits' : Suits st μ s') (a b : ℕ) (w : Amount) (room : ℕ) (was : Option Amount)
+module _ {S M : Type 0} (st : StoreGhosts S) (μ : MeasureGhosts M) (s s' : Held S) (suits : Suits st μ s) (suits' : Suits st μ s') (a b : ℕ) (w : Amount) (room : ℕ) (was : Option Amount)
     (is : was ≡ (st.meaning s.store).tie a b)
     (none : first_refusal μ (model st s).standing (call.Tie a b w room) ≡ None)
     (stands : (model st s').standing ≡ put (model st s).standing a b (Some w) s.state) where
@@ -105,8 +106,8 @@ module _ {S M : Type 0} (st : StoreGhosts S) (μ : MeasureGhosts M) (s s' : Solv
   opened' : is_new s'.state ≡ false
   opened' = ap (λ (x : Standing). is_new x.state) stands ∙ state_passed.0
 
-  abbrev on_trial_now : Solver S M
-  on_trial_now = record { store = s'.store; measure = s'.measure; total = s'.total; number = s'.number; state = state.OnTrial a b was; changes = s'.changes; table = s'.table }
+  abbrev on_trial_now : Held S
+  on_trial_now = record { store = s'.store; total = s'.total; number = s'.number; state = state.OnTrial a b was; changes = s'.changes; table = s'.table }
 
   fitted : Fits μ.group (st.meaning s.store).count (bounds_of μ s.total (set_tie (set_tie (st.meaning s.store).tie a b (Some w)) a b was)) (λ z. μ.value (deep s.table.rows z))
   fitted =
@@ -114,10 +115,10 @@ module _ {S M : Type 0} (st : StoreGhosts S) (μ : MeasureGhosts M) (s s' : Solv
       subst (λ (t : Ties). Fits μ.group (st.meaning s.store).count (bounds_of μ s.total t) (λ z. μ.value (deep s.table.rows z))) (sym (set_back (st.meaning s.store).tie a b (Some w) was is))
       (subst (λ (i : ℕ). Fits μ.group i (bounds_of μ s.total (st.meaning s.store).tie) (λ z. μ.value (deep s.table.rows z))) old.same old.solved.fits)
 
-  pub trial_suits : Suits st μ on_trial_now
+  trial_suits : Suits st μ on_trial_now
   trial_suits = record { sound = suits'.sound; same = suits'.same; table = λ _. suits'.table opened'; amounts = λ _. suits'.amounts opened' }
 
-  pub trial_can_roll_back : CanRollBack st μ on_trial_now
+  trial_can_roll_back : CanRollBack st μ on_trial_now
   trial_can_roll_back = record {
     stands = subst (λ (x : Standing). untie_refusal (meaning_of x) a b ≡ None) (sym stands) (tie_stands μ (st.meaning s.store) a b w room state_passed.1);
     admitted = λ v e. (suits.amounts state_passed.0).ties_admitted a b v (sym is ∙ e);
@@ -125,14 +126,12 @@ module _ {S M : Type 0} (st : StoreGhosts S) (μ : MeasureGhosts M) (s s' : Solv
     fit = subst (λ (x : Standing). Fits μ.group x.count (bounds_of μ x.total (set_tie x.ties a b was)) (λ z. μ.value (deep s.table.rows z))) (sym stands) fitted;
   }
 
--- ---- no trial is out of an open solver
-
-pub open_can_roll_back : {S M : Type 0} (st : StoreGhosts S) (μ : MeasureGhosts M) (s : Solver S M) → s.state ≡ state.Open → CanRollBack st μ s
-open_can_roll_back st μ s e = subst (StateSuits μ s.total (st.meaning s.store)) (sym e) tt
+  pub trial_upheld : Upheld st μ on_trial_now
+  trial_upheld = record { suits = trial_suits; trial = trial_can_roll_back }
 
 -- ---- rolling back
 
-module _ {S M : Type 0} (st : StoreGhosts S) (μ : MeasureGhosts M) (s : Solver S M) (can : CanRollBack st μ s) (a b : ℕ) (was : Option Amount) (out : s.state ≡ state.OnTrial a b was) where
+module _ {S M : Type 0} (st : StoreGhosts S) (μ : MeasureGhosts M) (s : Held S) (can : CanRollBack st μ s) (a b : ℕ) (was : Option Amount) (out : s.state ≡ state.OnTrial a b was) where
   pub trial_kept : TrialSuits μ s.total (st.meaning s.store) a b was
   trial_kept = subst (StateSuits μ s.total (st.meaning s.store)) out can
 
@@ -142,8 +141,8 @@ module _ {S M : Type 0} (st : StoreGhosts S) (μ : MeasureGhosts M) (s : Solver 
       negative_cycle_refutes μ.group (st.meaning s.store).count (bounds_of μ s.total (set_tie (st.meaning s.store).tie a b was)) (b ∷ way q c.up a) c.sum c.cycle c.negative
       trial_kept.depths trial_kept.fit
 
-  pub roll_back_answered : (number : ℕ) → number ≡ s.number → (m' : Model) (r : ℕ × ℕ) → Settled μ (model st s) a b was r m'
-      → Answered μ (model st s) (call.RollBack number) [] (answer.Changed r.0 r.1) [] m'
+  pub roll_back_answered : (number : ℕ) → number ≡ s.number → (m' : Model) (r : Counts) → Settled μ (model st s) a b was r m'
+      → Answered μ (model st s) (call.RollBack number) [] (answer.Changed r.moved r.reparented) [] m'
   roll_back_answered number own m' r h =
       settled_answered μ (model st s) m' a b was r h (call.RollBack number) []
       (skips (not (on_trial s.state && eqb number s.number)) WrongToken [] (ap not (and_from (on_trial s.state) (eqb number s.number) (ap on_trial out) (eq-eqb number s.number own))))

@@ -10,14 +10,13 @@ use Rattle.table.specs.declared.table.DepthTable.{DepthTable}
 use Rattle.update.specs.Lowering.{NegativeCycle}
 use Rattle.update.specs.declared.work.Work.{Work}
 use Rattle.law.specs.Amounts.{same_value}
-use Rattle.law.specs.Calls.{changes_after, tally}
-use Rattle.law.specs.Calls.Kind.{change}
+use Rattle.law.specs.Calls.{tally}
 use Rattle.law.specs.Refusals.{first, when}
 use Rattle.law.specs.Standing.{bounds_of, Ties}
+use Rattle.law.specs.declared.call.Counts.{Counts}
 use Rattle.law.specs.declared.call.Refusal.{Refusal}
 use Rattle.law.specs.declared.call.Refusal.TheVariants.{UnknownMarker, SameMarker, ClosedMarker, BadAmount, ShortBuffer, PairEmpty, StoreFull}
 use Rattle.solver.specs.Suits.{TableSuits}
-use Rattle.solver.specs.declared.solver.Solver.{Solver}
 
 -- the checks of a pair, and then others
 abbrev pub pair_refusal : StoreMeaning → ℕ → ℕ → List (Option Refusal) → Option Refusal
@@ -43,8 +42,11 @@ module _ {M : Type 0} (μ : MeasureGhosts M) where
       ∷ [])
 
   -- how many markers have another depth, and how many another parent
-  abbrev pub counts : DepthTable → DepthTable → ℕ × ℕ
-  counts t t' = (tally t.n (λ k. not (same_value μ (deep t.rows k) (deep t'.rows k))), tally t.n (λ k. not (up t.rows k == up t'.rows k)))
+  abbrev pub counts : DepthTable → DepthTable → Counts
+  counts t t' = record {
+    moved = tally t.n (λ k. not (same_value μ (deep t.rows k) (deep t'.rows k)));
+    reparented = tally t.n (λ k. not (up t.rows k == up t'.rows k));
+  }
 
   -- a table of as many markers, whose depths can be compared
   abbrev pub SameSize : DepthTable → Option DepthTable → Type 0
@@ -52,13 +54,10 @@ module _ {M : Type 0} (μ : MeasureGhosts M) where
   SameSize t (Some t') =
       (t'.n ≡ t.n) × ((z : ℕ) → z < t.n → μ.within 63 (deep t.rows z)) × ((z : ℕ) → z < t.n → μ.within 63 (deep t'.rows z))
 
-  -- a solver that took over the next table, if there is one, and counted a change
-  abbrev pub with_table : {S N : Type 0} → Solver S N → DepthTable → Solver S N
-  with_table s t = record { store = s.store; measure = s.measure; total = s.total; number = s.number; state = s.state; changes = changes_after change s.changes; table = t }
-
-  abbrev pub Adopted : {S N : Type 0} → Solver S N → Option DepthTable → ℕ × ℕ → Solver S N → Type 0
-  Adopted s None r s' = (s' ≡ with_table s s.table) × (r ≡ (0, 0))
-  Adopted s (Some t) r s' = (s' ≡ with_table s t) × (r ≡ counts s.table t)
+  -- the table that is held once the next one, if there is one, is taken over, and the counts of what then differs
+  abbrev pub Adopted : DepthTable → Option DepthTable → Counts → DepthTable → Type 0
+  Adopted t None r t' = (t' ≡ t) × (r ≡ record { moved = 0; reparented = 0 })
+  Adopted t (Some next) r t' = (t' ≡ next) × (r ≡ counts t next)
 
   -- the paths of the old table that still stand and add up are kept
   abbrev pub KeptPaths : Amount → Ties → DepthTable → DepthTable → Type 0

@@ -1,3 +1,5 @@
+pub mod Held
+pub mod Inside
 pub mod Model
 pub mod Suits
 pub mod Opening

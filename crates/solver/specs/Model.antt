@@ -11,7 +11,7 @@ use Rattle.law.specs.declared.call.Answer.{Answer}
 use Rattle.law.specs.declared.call.Answer.TheVariants as answer
 use Rattle.law.specs.declared.call.Refusal.{Refusal}
 use Rattle.law.specs.declared.call.State.{State}
-use Rattle.solver.specs.declared.solver.Solver.{Solver}
+use Rattle.solver.specs.Held.{Held}
 
 -- what stands, over a store of this meaning
 abbrev pub standing_of : StoreMeaning → Amount → ℕ → State → Standing
@@ -25,7 +25,7 @@ standing_of m total number state = record {
   state = state;
 }
 
-abbrev pub model : {S M : Type 0} → StoreGhosts S → Solver S M → Model
+abbrev pub model : {S : Type 0} → StoreGhosts S → Held S → Model
 model st s = record {
   standing = standing_of (st.meaning s.store) s.total s.number s.state;
   depth = deep s.table.rows;

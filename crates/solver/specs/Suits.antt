@@ -8,7 +8,7 @@ use Rattle.table.specs.Climb.{deep, up}
 use Rattle.table.specs.declared.table.DepthTable.{DepthTable}
 use Rattle.law.specs.Refusals.{is_new}
 use Rattle.law.specs.Standing.{bounds_of, Ties}
-use Rattle.solver.specs.declared.solver.Solver.{Solver}
+use Rattle.solver.specs.Held.{Held}
 
 module _ {M : Type 0} (μ : MeasureGhosts M) where
   -- the table is a shortest-path tree of the bounds that the ties t give, and no depth is large
@@ -23,7 +23,7 @@ module _ {M : Type 0} (μ : MeasureGhosts M) where
     pub ties_admitted : (x y : ℕ) (w : Amount) → t x y ≡ Some w → μ.admits w ≡ true
 
 module _ {S M : Type 0} (st : StoreGhosts S) (μ : MeasureGhosts M) where
-  pub record Suits (s : Solver S M) : Type 0 where
+  pub record Suits (s : Held S) : Type 0 where
     pub sound : st.sound s.store
     pub same : s.table.n ≡ (st.meaning s.store).count
     pub table : is_new s.state ≡ false → TableSuits μ s.total (st.meaning s.store).count (st.meaning s.store).tie s.table

@@ -8,8 +8,9 @@ use Rattle.graph.specs.Graph.{Fits}
 use Rattle.law.specs.Standing.{bounds_of}
 use Rattle.law.specs.declared.call.State.{State}
 use Rattle.law.specs.declared.call.State.TheVariants as state
-use Rattle.solver.specs.declared.solver.Solver.{Solver}
+use Rattle.solver.specs.Held.{Held}
 use Rattle.solver.specs.Changing.{untie_refusal}
+use Rattle.solver.specs.Suits.{Suits}
 
 module _ {M : Type 0} (μ : MeasureGhosts M) where
   -- a trial of the pair a, b, which had `before`: the pair can be written, what it had is admitted, and some depths fit once it
@@ -27,5 +28,10 @@ module _ {M : Type 0} (μ : MeasureGhosts M) where
 
 module _ {S M : Type 0} (st : StoreGhosts S) (μ : MeasureGhosts M) where
   -- if a trial is out, it can be rolled back
-  abbrev pub CanRollBack : Solver S M → Type 0
+  abbrev pub CanRollBack : Held S → Type 0
   CanRollBack s = StateSuits μ s.total (st.meaning s.store) s.state
+
+  -- what is so of every solver
+  pub record Upheld (s : Held S) : Type 0 where
+    pub suits : Suits st μ s
+    pub trial : CanRollBack s

@@ -1,31 +1,33 @@
 //! Taking over the table that a change leads to.
 
-ghost use Rattle.std.specs.Prelude.{◌≡◌, ◌≤◌};
 ghost use Rattle.solver.specs.Changing.{Adopted, SameSize};
 
-use crate::solver::Solver;
 use change::{moved, reparented};
+use law::Counts;
 use measure::Measure;
 use table::DepthTable;
 
-impl<S, M: Measure> Solver<S, M> {
-    // Takes over the table, if it is another one, and counts the change: how many markers have another depth, and how many
-    // another parent.
-    pub(crate) fn adopt(&mut self, next: Option<DepthTable>) -> (u16, u16)
-        requires { SameSize M.Measure self.old.table next }
-        ensures { Adopted M.Measure self.old next result self.new }
-    {
-        self.changes = self.changes.saturating_add(1);
-        match next {
-            None => (0, 0),
-            Some(table) => {
-                let counts = (
-                    moved(&self.measure, &self.table, &table),
-                    reparented(&self.table, &table),
-                );
-                self.table = table;
-                counts
-            }
+// Takes over the next table, if there is one: how many markers then have another depth, and how many another parent.
+pub(crate) fn adopt<M: Measure>(
+    measure: &M,
+    table: &mut DepthTable,
+    next: Option<DepthTable>,
+) -> Counts
+    requires { SameSize M.Measure table.old next }
+    ensures { Adopted M.Measure table.old next result table.new }
+{
+    match next {
+        None => Counts {
+            moved: 0,
+            reparented: 0,
+        },
+        Some(next) => {
+            let counts = Counts {
+                moved: moved(measure, table, &next),
+                reparented: reparented(table, &next),
+            };
+            *table = next;
+            counts
         }
     }
 }

@@ -1,63 +1,56 @@
 //! What is checked before anything is solved.
 
 ghost use Rattle.std.specs.Prelude.{◌≡◌, []};
-ghost use Rattle.law.specs.Refusals.{bad_tie, first_bad_tie, lowest};
-ghost use Rattle.solver.specs.Changing.{pair_refusal, tie_refusal, untie_refusal};
-ghost use Rattle.solver.specs.Opening.{as_result, opening_refusal};
+ghost use Rattle.law.specs.Refusals.{bad_tie, first, first_bad_tie, first_refusal, lowest, pair_checks};
+ghost use Rattle.law.specs.declared.call.Call.TheVariants as call;
+ghost use Rattle.solver.specs.Model.{model};
+ghost use Rattle.solver.specs.Opening.{as_result};
 
 use crate::solver::Solver;
-use law::Refusal;
+use law::{Refusal, State};
 use measure::{Amount, Measure};
 use store::TieStore;
 
 impl<S: TieStore, M: Measure> Solver<S, M> {
-    // The tie from `a` to `b`, where its amount is not admitted.
-    fn bad_tie_at(&self, a: u16, b: u16) -> Option<Refusal>
-        requires sound { S.TieStore.sound self.now.store }
-        ensures { result ≡ bad_tie M.Measure a b ((S.TieStore.meaning self.now.store).tie a b) }
+    // Whether the amount of the tie from `a` to `b`, if there is one, is admitted.
+    fn check_tie_at(&self, a: u16, b: u16) -> Result<(), Refusal>
+        ensures { result ≡ as_result (bad_tie M.Measure a b ((S.TieStore.meaning self.now.store).tie a b)) }
     {
         match self.store.amount(a, b) {
-            Some(amount) => {
-                if self.measure.admitted(amount) {
-                    return None;
-                }
-                Some(Refusal::BadTie { from: a, to: b })
+            Some(amount) if !self.measure.admitted(amount) => {
+                Err(Refusal::BadTie { from: a, to: b })
             }
-            None => None,
+            _ => Ok(()),
         }
     }
 
-    // The first such tie from `a`, by its end.
-    fn bad_tie_from(&self, a: u16) -> Option<Refusal>
-        requires sound { S.TieStore.sound self.now.store }
-        ensures { result ≡ lowest (S.TieStore.meaning self.now.store).count (λ b. bad_tie M.Measure a b ((S.TieStore.meaning self.now.store).tie a b)) }
+    // The same of all ties from `a`, by their ends.
+    fn check_ties_from(&self, a: u16) -> Result<(), Refusal>
+        ensures { result ≡ as_result (lowest (S.TieStore.meaning self.now.store).count (λ b. bad_tie M.Measure a b ((S.TieStore.meaning self.now.store).tie a b))) }
     {
         for b in 0..self.store.marker_count() {
-            if let Some(why) = self.bad_tie_at(a, b) {
-                return Some(why);
-            }
+            self.check_tie_at(a, b)?;
         }
-        None
+        Ok(())
     }
 
-    // The first of all, by start and then by end.
-    fn bad_tie(&self) -> Option<Refusal>
-        requires sound { S.TieStore.sound self.now.store }
-        ensures { result ≡ first_bad_tie M.Measure (S.TieStore.meaning self.now.store).count (S.TieStore.meaning self.now.store).tie }
+    // The same of all ties, by start and then by end.
+    fn check_ties(&self) -> Result<(), Refusal>
+        ensures { result ≡ as_result (first_bad_tie M.Measure (S.TieStore.meaning self.now.store).count (S.TieStore.meaning self.now.store).tie) }
     {
         for a in 0..self.store.marker_count() {
-            if let Some(why) = self.bad_tie_from(a) {
-                return Some(why);
-            }
+            self.check_ties_from(a)?;
         }
-        None
+        Ok(())
     }
 
-    // Why a new solver may not be opened with a buffer of this length, before anything is solved.
+    // Why the solver may not be opened with a buffer of this length, before anything is solved.
     pub(crate) fn check_opening(&self, room: usize) -> Result<(), Refusal>
-        requires sound { S.TieStore.sound self.now.store }
-        ensures { result ≡ as_result (opening_refusal M.Measure self.now.total (S.TieStore.meaning self.now.store) room) }
+        ensures { result ≡ as_result (first_refusal M.Measure (model S.TieStore self.now).standing (call.Open room)) }
     {
+        let State::New = self.state else {
+            return Err(Refusal::NotNew);
+        };
         let zero = self.measure.zero();
         if !self.measure.admitted(self.total) || measure::at_most(&self.measure, self.total, zero) {
             return Err(Refusal::BadAmount);
@@ -65,17 +58,18 @@ impl<S: TieStore, M: Measure> Solver<S, M> {
         if room < self.store.marker_count() as usize {
             return Err(Refusal::ShortBuffer);
         }
-        match self.bad_tie() {
-            Some(why) => Err(why),
-            None => Ok(()),
-        }
+        self.check_ties()
     }
 
     // Why the pair may be neither tied nor cleared.
     fn check_pair(&self, from: u16, to: u16) -> Result<(), Refusal>
-        requires sound { S.TieStore.sound self.now.store }
-        ensures { result ≡ as_result (pair_refusal (S.TieStore.meaning self.now.store) from to []) }
+        ensures { result ≡ as_result (first (pair_checks M.Measure (model S.TieStore self.now).standing from to [])) }
     {
+        match self.state {
+            State::New => return Err(Refusal::NotOpen),
+            State::OnTrial { .. } => return Err(Refusal::TrialOut),
+            State::Open => {}
+        }
         let n = self.store.marker_count();
         if from >= n || to >= n {
             return Err(Refusal::UnknownMarker);
@@ -97,8 +91,7 @@ impl<S: TieStore, M: Measure> Solver<S, M> {
         amount: Amount,
         room: usize,
     ) -> Result<(), Refusal>
-        requires sound { S.TieStore.sound self.now.store }
-        ensures { result ≡ as_result (tie_refusal M.Measure (S.TieStore.meaning self.now.store) from to amount room) }
+        ensures { result ≡ as_result (first_refusal M.Measure (model S.TieStore self.now).standing (call.Tie from to amount room)) }
     {
         self.check_pair(from, to)?;
         if !self.measure.admitted(amount) {
@@ -116,8 +109,7 @@ impl<S: TieStore, M: Measure> Solver<S, M> {
 
     // Why a tie may not be cleared.
     pub(crate) fn check_untie(&self, from: u16, to: u16) -> Result<(), Refusal>
-        requires sound { S.TieStore.sound self.now.store }
-        ensures { result ≡ as_result (untie_refusal (S.TieStore.meaning self.now.store) from to) }
+        ensures { result ≡ as_result (first_refusal M.Measure (model S.TieStore self.now).standing (call.Untie from to)) }
     {
         self.check_pair(from, to)?;
         if self.store.amount(from, to).is_none() {

@@ -8,7 +8,6 @@ pub mod new;
 pub mod next;
 pub mod open;
 pub mod path;
-pub mod put;
 pub mod read;
 pub mod settle;
 pub mod solver;

@@ -4,8 +4,6 @@ ghost use Rattle.std.specs.Prelude.{◌≡◌, []};
 ghost use Rattle.law.specs.Telling.{Tells};
 ghost use Rattle.law.specs.declared.call.State.TheVariants as state;
 ghost use Rattle.solver.specs.Model.{model, standing_of};
-ghost use Rattle.solver.specs.Suits.{Suits};
-ghost use Rattle.solver.specs.Trials.{CanRollBack};
 
 use crate::solver::Solver;
 use law::State;
@@ -17,8 +15,6 @@ impl<S: TieStore, M: Measure> Solver<S, M> {
     /// A new solver over the ties that `store` holds. No marker may lie deeper than `total_depth`. Tokens bear `number`.
     pub fn new(store: S, measure: M, total_depth: Amount, number: u32) -> Solver<S, M>
         requires sound { S.TieStore.sound store }
-        ensures suits { Suits S.TieStore M.Measure result }
-        ensures trial { CanRollBack S.TieStore M.Measure result }
         ensures standing { (model S.TieStore result).standing ≡ standing_of (S.TieStore.meaning store) total_depth number state.New }
         ensures changes { (model S.TieStore result).changes ≡ 0 }
         ensures tells { Tells M.Measure (model S.TieStore result).standing [] (model S.TieStore result) }

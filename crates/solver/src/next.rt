@@ -5,7 +5,6 @@ ghost use Rattle.bounds.specs.Small.{Small};
 ghost use Rattle.law.specs.Refusals.{is_new};
 ghost use Rattle.store.specs.Meaning.{set_tie};
 ghost use Rattle.solver.specs.Changing.{LeadsTo};
-ghost use Rattle.solver.specs.Suits.{Suits};
 
 use crate::solver::Solver;
 use bounds::Bounds;
@@ -20,7 +19,6 @@ use update::{Lowering, Work};
 impl<S: TieStore, M: Measure> Solver<S, M> {
     // The table of the ties with one changed, if it is another; or rows whose parents lead round a cycle.
     pub(crate) fn next_table(&self, step: Change) -> Result<Option<DepthTable>, Work>
-        requires suits { Suits S.TieStore M.Measure self.now }
         requires opened { is_new self.now.state ≡ false }
         requires start { step.start < (S.TieStore.meaning self.now.store).count }
         requires end { step.end < (S.TieStore.meaning self.now.store).count }

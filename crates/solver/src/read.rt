@@ -5,7 +5,6 @@ ghost use Rattle.law.specs.Calls.{Answered};
 ghost use Rattle.law.specs.Telling.{Logged};
 ghost use Rattle.law.specs.declared.call.Call.TheVariants as call;
 ghost use Rattle.solver.specs.Model.{model, read_row};
-ghost use Rattle.solver.specs.Suits.{Suits};
 
 use crate::solver::Solver;
 use law::{Refusal, State};
@@ -16,7 +15,6 @@ use table::Row;
 impl<S: TieStore, M: Measure> Solver<S, M> {
     /// The deepest depth of a marker, and the marker before it on its path.
     pub fn depth(&self, marker: u16) -> Result<Row, Refusal>
-        requires suits { Suits S.TieStore M.Measure self.now }
         ensures answered { Answered M.Measure (model S.TieStore self.now) (call.Depth marker) [] (read_row result) [] (model S.TieStore self.now) }
         ensures logged { Logged M.Measure (model S.TieStore self.now) (call.Depth marker) (read_row result) [] (model S.TieStore self.now) }
     {

@@ -3,34 +3,40 @@
 ghost use Rattle.std.specs.Prelude.{◌≡◌, ◌<◌, true, Ok};
 ghost use Rattle.law.specs.declared.call.State.TheVariants as state;
 ghost use Rattle.solver.specs.Settling.{admitted_step, Settles};
-ghost use Rattle.solver.specs.Suits.{Suits};
 ghost use Rattle.solver.specs.Writing.{set_answer};
 
+use crate::adopt::adopt;
 use crate::solver::Solver;
 use crate::write::set_tie;
 use bounds::scope::Change;
-use measure::Measure;
+use law::Counts;
+use measure::{Amount, Measure};
 use store::TieStore;
 use update::Work;
 
 impl<S: TieStore, M: Measure> Solver<S, M> {
-    // Changes one tie of an open solver: how many markers then have another depth, and how many another parent; or rows whose
+    // Gives a pair of an open solver an amount, or none: how many markers then have another depth, and how many another parent; or rows whose
     // parents lead round a cycle, and nothing is changed.
-    pub(crate) fn settle(&mut self, step: Change) -> Result<(u16, u16), Work>
-        requires suits { Suits S.TieStore M.Measure self.old }
+    pub(crate) fn settle(
+        &mut self,
+        from: u16,
+        to: u16,
+        amount: Option<Amount>,
+    ) -> Result<Counts, Work>
         requires opened { self.old.state ≡ state.Open }
-        requires start { step.start < (S.TieStore.meaning self.old.store).count }
-        requires end { step.end < (S.TieStore.meaning self.old.store).count }
-        requires admitted { admitted_step M.Measure step.amount ≡ true }
-        requires taken { set_answer (S.TieStore.meaning self.old.store) step.start step.end step.amount ≡ Ok tt }
-        ensures { Settles S.TieStore M.Measure self.old step.start step.end step.amount result self.new }
+        requires start { from < (S.TieStore.meaning self.old.store).count }
+        requires end { to < (S.TieStore.meaning self.old.store).count }
+        requires admitted { admitted_step M.Measure amount ≡ true }
+        requires taken { set_answer (S.TieStore.meaning self.old.store) from to amount ≡ Ok tt }
+        ensures { Settles S.TieStore M.Measure self.old from to amount result self.new }
     {
-        match self.next_table(step) {
-            Ok(next) => {
-                set_tie(&mut self.store, step.start, step.end, step.amount);
-                Ok(self.adopt(next))
-            }
-            Err(work) => Err(work),
-        }
+        let next = self.next_table(Change {
+            start: from,
+            end: to,
+            amount,
+        })?;
+        set_tie(&mut self.store, from, to, amount);
+        self.changes = self.changes.saturating_add(1);
+        Ok(adopt(&self.measure, &mut self.table, next))
     }
 }

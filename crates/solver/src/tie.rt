@@ -6,13 +6,12 @@ ghost use Rattle.law.specs.Results.{changed};
 ghost use Rattle.law.specs.Telling.{Logged};
 ghost use Rattle.law.specs.declared.call.Call.TheVariants as call;
 ghost use Rattle.solver.specs.Model.{model};
-ghost use Rattle.solver.specs.Trials.{CanRollBack};
-ghost use Rattle.solver.specs.Suits.{Suits};
 
 use crate::solver::Solver;
-use law::{Refusal, State};
+use law::{Counts, Refusal};
 use measure::{Amount, Measure};
 use store::TieStore;
+use table::trail;
 
 impl<S: TieStore, M: Measure> Solver<S, M> {
     /// Puts the tie from one marker to another, or replaces its amount: how many markers then have another depth, and how many
@@ -23,32 +22,33 @@ impl<S: TieStore, M: Measure> Solver<S, M> {
         to: u16,
         amount: Amount,
         cycle: &mut [u16],
-    ) -> Result<(u16, u16), Refusal>
-        requires suits { Suits S.TieStore M.Measure self.old }
-        ensures suits { Suits S.TieStore M.Measure self.new }
-        ensures trial { CanRollBack S.TieStore M.Measure self.old → CanRollBack S.TieStore M.Measure self.new }
+    ) -> Result<Counts, Refusal>
         ensures answered { Answered M.Measure (model S.TieStore self.old) (call.Tie from to amount (length cycle.old)) cycle.old (changed result) cycle.new (model S.TieStore self.new) }
         ensures logged { Logged M.Measure (model S.TieStore self.old) (call.Tie from to amount (length cycle.old)) (changed result) cycle.new (model S.TieStore self.new) }
     {
-        match self.state {
-            State::New => Err(Refusal::NotOpen),
-            State::OnTrial { .. } => Err(Refusal::TrialOut),
-            State::Open => self.put_tie(from, to, amount, cycle),
+        // lets the proof see what is so of every solver
+        let _ = &self.table;
+        self.check_tie(from, to, amount, cycle.len())?;
+        match self.settle(from, to, Some(amount)) {
+            Ok(counts) => Ok(counts),
+            Err(work) => Err(Refusal::Contradiction {
+                length: trail(&work.rows, from, to, cycle),
+            }),
         }
     }
 
     /// Takes the tie from one marker to another away: the same two counts.
-    pub fn untie(&mut self, from: u16, to: u16) -> Result<(u16, u16), Refusal>
-        requires suits { Suits S.TieStore M.Measure self.old }
-        ensures suits { Suits S.TieStore M.Measure self.new }
-        ensures trial { CanRollBack S.TieStore M.Measure self.old → CanRollBack S.TieStore M.Measure self.new }
+    pub fn untie(&mut self, from: u16, to: u16) -> Result<Counts, Refusal>
         ensures answered { Answered M.Measure (model S.TieStore self.old) (call.Untie from to) [] (changed result) [] (model S.TieStore self.new) }
         ensures logged { Logged M.Measure (model S.TieStore self.old) (call.Untie from to) (changed result) [] (model S.TieStore self.new) }
     {
-        match self.state {
-            State::New => Err(Refusal::NotOpen),
-            State::OnTrial { .. } => Err(Refusal::TrialOut),
-            State::Open => self.clear_tie(from, to),
+        // lets the proof see what is so of every solver
+        let _ = &self.table;
+        self.check_untie(from, to)?;
+        match self.settle(from, to, None) {
+            Ok(counts) => Ok(counts),
+            // whatever fits the ties fits them without this one
+            Err(_work) => unreachable(),
         }
     }
 }

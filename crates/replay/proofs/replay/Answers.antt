@@ -11,13 +11,11 @@ loop-i-preserved g c =
     let l = c.loop-i in
     let h : c.loop-i.i < length c.loop-i.entries = omega arith in
     let made = c.answer_to-answer.ensures.made in (
-      c.answer_to-answer.ensures.suits,
-      c.answer_to-answer.ensures.trial,
       c.answer_to-answer.ensures.holds,
-      reached_more μ _ _ _ l.entries l.i _ h made l.invariant.3,
-      replayed_more μ _ _ _ l.entries l.i _ h made l.invariant.4,
-      calls_more l.entries _ l.i _ h c.cap-entry.ensures l.invariant.6 l.invariant.5,
-      rest_more l.entries _ l.i _ l.invariant.6,
+      reached_more μ _ _ _ l.entries l.i _ h made l.invariant.1,
+      replayed_more μ _ _ _ l.entries l.i _ h made l.invariant.2,
+      calls_more l.entries _ l.i _ h c.cap-entry.ensures l.invariant.4 l.invariant.3,
+      rest_more l.entries _ l.i _ l.invariant.4,
     )
 
 pub returns : goal.returns
@@ -29,10 +27,8 @@ returns g c =
     let past : length c.loop-i.entries ≤ c.loop-i.i = omega arith in
     let all = take_all c.loop-i.i c.loop-i.entries past in
     record {
-      suits = l.invariant.0;
-      trial = l.invariant.1;
-      holds = l.invariant.2;
-      calls = calls_all l.entries c.args.entries.now l.i past l.invariant.5 l.invariant.6;
-      ran = reached_ran μ m _ m' (subst (λ (es : List Entry). Reached μ m (log_of es) m') all l.invariant.3);
-      lawful = subst (λ (es : List Entry). Replayed μ m es m') all l.invariant.4;
+      holds = l.invariant.0;
+      calls = calls_all l.entries c.args.entries.now l.i past l.invariant.3 l.invariant.4;
+      ran = reached_ran μ m _ m' (subst (λ (es : List Entry). Reached μ m (log_of es) m') all l.invariant.1);
+      lawful = subst (λ (es : List Entry). Replayed μ m es m') all l.invariant.2;
     }

@@ -1,15 +1,11 @@
 use Rattle.std.proofs.Common.{◌≡◌, ℕ, ◌<◌, ◌≤◌, get_or, take}
 use Rattle.solver.specs.Model.{model}
-use Rattle.solver.specs.Suits.{Suits}
-use Rattle.solver.specs.Trials.{CanRollBack}
 use Rattle.replay.specs.Replays.{blank, capped, Holds, log_of, Reached, Replayed}
 use Rattle.replay.proofs.replay.Given as goal
 
 abbrev pub invariant-loop-i : goal.invariant-loop-i
 invariant-loop-i g l =
-    Suits g.S.TieStore g.M.Measure l.solver
-    × CanRollBack g.S.TieStore g.M.Measure l.solver
-    × Holds (model g.S.TieStore l.solver) l.held
+    Holds (model g.S.TieStore l.solver) l.held
     × Reached g.M.Measure (model g.S.TieStore l.initial.solver) (log_of (take l.i l.entries)) (model g.S.TieStore l.solver)
     × Replayed g.M.Measure (model g.S.TieStore l.initial.solver) (take l.i l.entries) (model g.S.TieStore l.solver)
     × ((k : ℕ) → k < l.i → (get_or l.entries k blank).call ≡ capped (get_or l.initial.entries k blank).call)

@@ -8,8 +8,6 @@ pub returns-in-Open : goal.returns-in-Open
 returns-in-Open g c =
     let made = c.open.ensures.made in
     record {
-      suits = c.open.ensures.suits;
-      trial = c.open.ensures.trial;
       made = as_call g.M.Measure _ _ _ _ _ _ c.in-Open.is made;
       holds = holds_on g.M.Measure _ _ (call.Open c.in-Open.room) _ _ _ c.args.token tt made.answered c.requires.holds;
     }
@@ -19,8 +17,6 @@ returns-in-Tie g c =
     let made = c.tie.ensures.made in
     let t = c.in-Tie in
     record {
-      suits = c.tie.ensures.suits;
-      trial = c.tie.ensures.trial;
       made = as_call g.M.Measure _ _ _ _ _ _ t.is made;
       holds = holds_on g.M.Measure _ _ (call.Tie t.from t.to t.amount t.room) _ _ _ c.args.token tt made.answered c.requires.holds;
     }
@@ -30,8 +26,6 @@ returns-in-Untie g c =
     let told = c.untie.ensures.answered in
     let t = c.in-Untie in
     record {
-      suits = c.untie.ensures.suits;
-      trial = c.untie.ensures.trial c.requires.trial;
       made = as_call g.M.Measure _ _ _ _ _ _ t.is (bare g.M.Measure _ _ (call.Untie t.from t.to) _ _ _ c.change.ensures refl told);
       holds = holds_on g.M.Measure _ _ (call.Untie t.from t.to) _ _ _ c.args.token tt told c.requires.holds;
     }

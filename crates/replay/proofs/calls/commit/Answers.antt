@@ -16,8 +16,6 @@ returns g c =
     let held = c.in-Some.held in
     let told = subst (λ (k : ℕ). Answered μ m (call.Commit k) [] (committed c.commit.result) [] m') (sym c.number.ensures ∙ c.if-number.false) c.commit.ensures.answered in
     record {
-      suits = c.commit.ensures.suits;
-      trial = c.commit.ensures.trial c.requires.trial;
       made = bare μ m m' (call.Commit c.args.number) _ _ [] c.committing.ensures.answer refl told;
       holds = subst (Holds m') (sym c.committing.ensures.held) (commit_holds μ m m' c.args.number held c.commit.result told c.commit.ensures.back (subst (Holds m) c.in-Some.is c.requires.holds));
     }

@@ -16,8 +16,6 @@ returns g c =
     let held = c.in-Some.held in
     let told = subst (λ (k : ℕ). Answered μ m (call.RollBack k) [] (rolled_back c.roll_back.result) [] m') (sym c.number.ensures ∙ c.if-number.false) c.roll_back.ensures.answered in
     record {
-      suits = c.roll_back.ensures.suits;
-      trial = c.roll_back.ensures.trial;
       made = bare μ m m' (call.RollBack c.args.number) _ _ [] c.rolling_back.ensures.answer refl told;
       holds = subst (Holds m') (sym c.rolling_back.ensures.held) (roll_back_holds μ m m' c.args.number held c.roll_back.result told c.roll_back.ensures.back (subst (Holds m) c.in-Some.is c.requires.holds));
     }

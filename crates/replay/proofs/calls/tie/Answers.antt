@@ -5,7 +5,5 @@ use Rattle.replay.proofs.calls.tie.Goals as goal
 
 pub returns : goal.returns
 returns g c = record {
-  suits = c.tie.ensures.suits;
-  trial = c.tie.ensures.trial c.requires.trial;
   made = part g.M.Measure _ _ (λ k. call.Tie c.args.from c.args.to c.args.amount k) _ _ c.args.room _ c.tie.new.cycle _ c.change.ensures (λ j. refl) (search rules) (search rules) c.tie.ensures.answered;
 }

@@ -5,10 +5,10 @@ use Rattle.solver.specs.Model.{model}
 use Rattle.replay.proofs.start.run_new.Goals as goal
 
 pub replay-requires : goal.replay-requires
-replay-requires g c = record { suits = c.requires.suits; trial = c.requires.trial; holds = ap on_trial c.requires.new }
+replay-requires g c = record { holds = ap on_trial c.requires.new }
 
 pub returns : goal.returns
 returns g c =
     let m = model g.S.TieStore c.args.solver.now in
     let done = c.replay.ensures in
-    record { suits = done.suits; trial = done.trial; holds = done.holds; lawful = (done.lawful m.standing [] (starts g.M.Measure m c.requires.new)).lawful }
+    record { holds = done.holds; lawful = (done.lawful m.standing [] (starts g.M.Measure m c.requires.new)).lawful }

@@ -13,6 +13,7 @@ returns-else-marker-n g c =
     let μ = g.M.Measure in
     let m = model g.S.TieStore c.args.self.now in
     let opened : is_new c.args.self.now.state ≡ false = search rules in
-    let known : c.args.marker < (g.S.TieStore.meaning c.args.self.now.store).count = rw (sym c.requires.suits.same, sym c.n.ensures) c.if-marker-n.false in
-    let told = subst (λ (r : Row). Answered μ m (call.Depth c.args.marker) [] (read_row (Ok r)) [] m) (sym c.row.ensures) (depth_answered μ m c.args.marker opened known) in
+    let same = c.self.invariant.suits.same in
+    let known : c.args.marker < (g.S.TieStore.meaning c.args.self.now.store).count = rw (← c.self.view_is, ← same, ← c.n.ensures) c.if-marker-n.false in
+    let told = subst (λ (r : Row). Answered μ m (call.Depth c.args.marker) [] (read_row (Ok r)) [] m) (rw (← c.self.view_is) (sym c.row.ensures)) (depth_answered μ m c.args.marker opened known) in
     record { answered = told; logged = goes_on μ m m (call.Depth c.args.marker) [] _ [] told }

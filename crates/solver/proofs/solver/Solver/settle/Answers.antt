@@ -1,19 +1,34 @@
-use Rattle.std.proofs.Common.{ap}
+use Rattle.std.proofs.Common.{Ok, sym, ap, subst}
+use Rattle.store.specs.Meaning.{set_tie}
 use Rattle.law.specs.Refusals.{is_new}
+use Rattle.solver.specs.Changing.{LeadsTo}
+use Rattle.solver.specs.Held.{Held}
+use Rattle.solver.specs.Inside.{held}
 use Rattle.solver.proofs.Settling.{settled, step_small}
 use Rattle.solver.proofs.solver.Solver.settle.Goals as goal
 
 pub next_table-requires : goal.next_table-requires
 next_table-requires g c = record {
-  suits = c.requires.suits;
   opened = ap is_new c.requires.opened;
   start = c.requires.start;
   end = c.requires.end;
-  small = step_small g.M.Measure c.args.step.amount c.requires.admitted;
+  small = step_small g.M.Measure c.args.amount c.requires.admitted;
 }
 
-pub returns-in-Ok : goal.returns-in-Ok
-returns-in-Ok g c =
-    settled g.S.TieStore g.M.Measure c.args.self.now c.requires.suits c.requires.opened c.args.step.start c.args.step.end c.args.step.amount c.requires.admitted
-    c.set_tie.new.store c.set_tie.ensures.sound c.set_tie.ensures.meaning
-    c.adopt.result c.adopt.new.self c.in-Ok.next c.in-Ok.ensures c.adopt.ensures
+pub invariant_of-self : goal.invariant_of-self
+invariant_of-self g c =
+    let opened = rw (← c.self.view_is) at c.requires.opened in
+    let leads = subst (λ (s : Held g.row.S.Denot). LeadsTo g.M.Measure s.total (g.S.TieStore.meaning s.store).count (set_tie (g.S.TieStore.meaning s.store).tie c.args.from c.args.to c.args.amount) c.args.from c.args.to s.table (Ok c.in_ok-next.next))
+    (sym c.self.view_is) c.in_ok-next.ensures in
+    rw c.saturating_add-self-inside.ensures
+    (settled g.S.TieStore g.M.Measure (held c.self.inside) c.self.invariant.suits opened c.args.from c.args.to c.args.amount c.requires.admitted
+    c.set_tie.new.store c.set_tie.ensures.sound c.set_tie.ensures.meaning c.adopt.result c.in_ok-next.next c.adopt.new.table leads c.adopt.ensures).0
+
+pub returns : goal.returns
+returns g c =
+    let opened = rw (← c.self.view_is) at c.requires.opened in
+    let leads = subst (λ (s : Held g.row.S.Denot). LeadsTo g.M.Measure s.total (g.S.TieStore.meaning s.store).count (set_tie (g.S.TieStore.meaning s.store).tie c.args.from c.args.to c.args.amount) c.args.from c.args.to s.table (Ok c.in_ok-next.next))
+    (sym c.self.view_is) c.in_ok-next.ensures in
+    rw (← c.self.view_is, c.saturating_add-self-inside.ensures)
+    (settled g.S.TieStore g.M.Measure (held c.self.inside) c.self.invariant.suits opened c.args.from c.args.to c.args.amount c.requires.admitted
+    c.set_tie.new.store c.set_tie.ensures.sound c.set_tie.ensures.meaning c.adopt.result c.in_ok-next.next c.adopt.new.table leads c.adopt.ensures).1

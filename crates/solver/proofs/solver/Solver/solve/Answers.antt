@@ -1,10 +1,12 @@
 use Rattle.std.proofs.Common.{◌≡◌, ℕ, ◌+◌, List, set, replicate, refl, ap, ◌∙◌, subst, arith}
+use Rattle.std.proofs.lemmas.Result.{err_from_is_err_and}
 use Rattle.measure.specs.declared.Amount.{Amount}
 use Rattle.bounds.specs.Scopes.{in_scope}
 use Rattle.bounds.specs.declared.scope.Scope.TheVariants.{First}
 use Rattle.law.specs.Standing.{bounds_of}
 use Rattle.solver.specs.Opening.{Witness}
 use Rattle.solver.specs.Suits.{TableSuits}
+use Rattle.solver.specs.Trials.{Upheld}
 use Rattle.solver.proofs.Opens.{insert_all, witness_all}
 use Rattle.solver.proofs.Starts.{start_suits}
 use Rattle.solver.proofs.solver.Solver.solve.Goals as goal
@@ -12,31 +14,37 @@ use Rattle.solver.proofs.solver.Solver.solve.Goals as goal
 pub loop-k-init : goal.loop-k-init
 loop-k-init g c =
     let μ = g.M.Measure in
-    let s = c.args.self.now in
+    let s = c.self.inside in
     let m = g.S.TieStore.meaning s.store in
-    let table = c.flat-table.result in (
-      start_suits μ s.total m.tie table c.requires.limits.total_small c.requires.deep
+    let table = c.flat-table.result in
+    let limits = rw (← c.self.view_is) at c.requires.limits in
+    let deep = rw (← c.self.view_is) at c.requires.deep in
+    rw (← c.self.view_is) (
+      start_suits μ s.total m.tie table limits.total_small deep
           (c.flat-table.ensures.rows ∙ ap (λ (i : Amount). set (replicate 64 (record { depth = s.total; parent = 0 })) 0 (record { depth = i; parent = 0 })) c.zero.ensures)
           m.count (c.flat-table.ensures.n ∙ c.marker_count.ensures),
       refl,
     )
 
-pub returns-in-Err : goal.returns-in-Err
-returns-in-Err g c =
+pub returns-in_err-table : goal.returns-in_err-table
+returns-in_err-table g c =
     let μ = g.M.Measure in
     let s = c.args.self.now in
     let m = g.S.TieStore.meaning s.store in
-    let law = g.S.TieStore.lawful s.store c.requires.sound in
-    let k = c.loop-k.k in
-    subst (λ (b : List ℕ). Witness μ.group m.count (bounds_of μ s.total m.tie) b c.insert.new.cycle c.in-Err.length) c.loop-k.invariant.1
-    (witness_all m law μ s.total (k + 1) c.loop-k.cycle c.insert.new.cycle c.in-Err.length c.in-Err.ensures)
+    let whole : Upheld g.S.TieStore μ c.args.self.now = rw (← c.self.view_is) c.self.invariant in
+    let law = g.S.TieStore.lawful s.store whole.suits.sound in
+    let size = c.in_err-table.field-0.0 in
+    let p = err_from_is_err_and c.from_residual.result c.from_residual.ensures.1 in
+    rw (p.1, p.2) (subst (λ (b : List ℕ). Witness μ.group m.count (bounds_of μ s.total m.tie) b c.insert.new.cycle size) c.loop-k.invariant.1
+    (witness_all m law μ s.total (c.loop-k.k + 1) c.loop-k.cycle c.insert.new.cycle size c.in_err-table.ensures))
 
 pub returns : goal.returns
 returns g c =
     let μ = g.M.Measure in
     let s = c.args.self.now in
     let m = g.S.TieStore.meaning s.store in
-    let law = g.S.TieStore.lawful s.store c.requires.sound in
+    let whole : Upheld g.S.TieStore μ c.args.self.now = rw (← c.self.view_is) c.self.invariant in
+    let law = g.S.TieStore.lawful s.store whole.suits.sound in
     let last : c.loop-k.k ≡ 4096 = omega (arith, c.loop-k.auto.k-end) in
     let all = subst (λ (i : ℕ). TableSuits μ s.total m.count (in_scope m.tie (First i)) c.loop-k.table) last c.loop-k.invariant.0 in
     (insert_all m law μ s.total c.loop-k.table all, c.loop-k.invariant.1)

@@ -1,6 +1,6 @@
 use Rattle.std.proofs.Common.{◌≡◌, None}
 use Rattle.law.specs.Refusals.{bad_tie, lowest}
-use Rattle.solver.proofs.solver.Solver.bad_tie.Given as goal
+use Rattle.solver.proofs.solver.Solver.check_ties.Given as goal
 
 abbrev pub invariant-loop-a : goal.invariant-loop-a
 invariant-loop-a g l =
