@@ -5,8 +5,9 @@ use Rattle.measure.specs.declared.Amount.{Amount}
 use Rattle.measure.specs.declared.Measure as measure
 use Rattle.measure.specs.Least.{first_of}
 use Rattle.measure.proofs.Within.{wider_to}
-use Rattle.store.specs.Meaning.{same_pair, set_tie}
-use Rattle.graph.specs.Weights.{valued}
+use Rattle.store.specs.Meaning.{Lawful, same_pair, set_tie, StoreMeaning}
+use Rattle.graph.specs.Weights.{Usable, valued}
+use Rattle.graph.specs.declared.Graph as graph
 use Rattle.graph.specs.Change.{Lowered, Raised}
 use Rattle.graph.specs.Graph.{Edge}
 use Rattle.graph.proofs.Valued.{amount_of}
@@ -120,3 +121,15 @@ module _ {M : Type 0} (μ : measure.Ghosts M) where
       by : (p : Bool) (i : Option Amount) → Small μ i → Small μ (cond p o i)
       by true i h = small
       by false i h = h
+
+-- the bounds of a lawful store's ties can be solved
+pub usable : {G M : Type 0} (s : graph.Ghosts G) (μ : measure.Ghosts M) (x : G) (m : StoreMeaning) (total : Amount) (t : Ties)
+    → Lawful m → BoundsSound μ total t → s.sound x → s.count x ≡ m.count → ((a b : ℕ) → s.weight x a b ≡ bound_at μ total a b (t a b)) → Usable s μ x
+usable s μ x m total t law sound is n w = record {
+  sound = is;
+  some = omega (arith, law.low);
+  few = omega (arith, law.high);
+  small = λ a b v e. bound_small μ total t sound a b v (sym (w a b) ∙ e);
+  reach = λ b h l. let r = bound_reach μ total t sound b h in (r.0, w 0 b ∙ r.1);
+  no_loop = λ a. w a a ∙ bound_loop μ total t sound a;
+}

@@ -38,7 +38,6 @@ pub struct Bounds<'s, S, M> {
 impl<'s, S: TieStore, M: Measure> Bounds<'s, S, M> {
     // The tie of a pair that is in scope.
     fn tie(&self, from: u16, to: u16) -> Option<Amount>
-        requires { S.TieStore.sound self.now.store.now }
         ensures { result ≡ in_scope (S.TieStore.meaning self.now.store.now).tie self.now.scope from to }
     {
         match self.scope {
@@ -66,7 +65,7 @@ impl<'s, S: TieStore, M: Measure> Graph for Bounds<'s, S, M> {
 
     ghost weight = { λ b x y. bound_at M.Measure b.total x y (in_scope (S.TieStore.meaning b.store.now).tie b.scope x y) };
 
-    ghost sound = { λ b. S.TieStore.sound b.store.now × BoundsSound M.Measure b.total (in_scope (S.TieStore.meaning b.store.now).tie b.scope) };
+    ghost sound = { λ b. BoundsSound M.Measure b.total (in_scope (S.TieStore.meaning b.store.now).tie b.scope) };
 
     fn marker_count(&self) -> u16 {
         self.store.marker_count()

@@ -30,7 +30,7 @@ pub no_counts : {M : Type 0} (μ : MeasureGhosts M) (t : DepthTable) → counts 
 no_counts μ t = ap (λ (i : ℕ). record { moved = i; reparented = tally t.n (λ k. not (eqb (up t.rows k) (up t.rows k))) }) (none_moved μ t.n (deep t.rows)) ∙ ap (λ (i : ℕ). record { moved = 0; reparented = i }) (none_reparented t.n (up t.rows))
 
 module _ {S M : Type 0} (st : StoreGhosts S) (μ : MeasureGhosts M) (s : Held S) (suits : Suits st μ s) (opened : is_new s.state ≡ false) (a b : ℕ) (o : Option Amount)
-    (admitted : (w : Amount) → o ≡ Some w → μ.admits w ≡ true) (store : S) (sound : st.sound store)
+    (admitted : (w : Amount) → o ≡ Some w → μ.admits w ≡ true) (store : S)
     (meaning : st.meaning store ≡ changed_meaning (st.meaning s.store) a b o) (table : DepthTable)
     (fits : TableSuits μ s.total (st.meaning s.store).count (set_tie (st.meaning s.store).tie a b o) table) where
   abbrev m : StoreMeaning
@@ -52,7 +52,6 @@ module _ {S M : Type 0} (st : StoreGhosts S) (μ : MeasureGhosts M) (s : Held S)
 
   pub after_suits : Suits st μ after
   after_suits = record {
-    sound = sound;
     same = after_fits.same;
     table = λ _. after_fits;
     amounts = λ _. subst (λ (k : StoreMeaning). Admitted μ s.total k.tie) (sym meaning) all_admitted;

@@ -112,13 +112,12 @@ module _ {S M : Type 0} (st : StoreGhosts S) (μ : MeasureGhosts M) (s : Held S)
     abbrev opened : Held S
     opened = record { store = s.store; total = s.total; number = s.number; state = state.Open; changes = s.changes; table = table }
 
-    pub opened_upheld : st.sound s.store → Upheld st μ opened
-    opened_upheld sound = record {
+    pub opened_upheld : Upheld st μ opened
+    opened_upheld = record {
       suits = record {
-        sound = sound;
         same = solved.same;
         table = λ _. solved;
-        amounts = λ _. all_admitted μ s.total (st.meaning s.store) (st.lawful s.store sound) (length before) opening_passed;
+        amounts = λ _. all_admitted μ s.total (st.meaning s.store) (st.lawful s.store) (length before) opening_passed;
       };
       trial = tt;
     }

@@ -1,5 +1,5 @@
 -- Ties inserted one pair after another. Assumes nothing.
-use Rattle.std.proofs.Common.{◌≡◌, ℕ, ◌+◌, ◌*◌, ◌/◌, ◌%◌, ◌<◌, Bool, true, false, cond, eqb, ltb, List, ◌∷◌, length, Some, None, Option, sym, ap, ◌∙◌, subst, inl, inr, arith}
+use Rattle.std.proofs.Common.{◌≡◌, ℕ, ◌+◌, ◌*◌, ◌/◌, ◌%◌, ◌<◌, Bool, true, false, cond, eqb, ltb, List, ◌∷◌, length, Some, None, Ok, Option, Result, sym, refl, ap, ◌∙◌, subst, inl, inr, arith}
 use Rattle.std.proofs.lemmas.Bool.{cases_lt, cond-false, cond-true, lt-ltb, ne_eqb}
 use Rattle.measure.specs.declared.Amount.{Amount}
 use Rattle.measure.specs.declared.Measure.{Ghosts as MeasureGhosts}
@@ -12,6 +12,9 @@ use Rattle.table.specs.Climb.{deep, FirstClimb, up}
 use Rattle.table.specs.declared.table.DepthTable.{DepthTable}
 use Rattle.table.proofs.Ways.{length_down}
 use Rattle.update.specs.Lowering.{NegativeCycle, SolvedBefore}
+use Rattle.update.specs.Lowers.{Lowers, Solution}
+use Rattle.update.specs.declared.work.Contradiction.{Contradiction}
+use Rattle.table.specs.declared.row.Row.{Row}
 use Rattle.update.proofs.Cycles.{cycle_first}
 use Rattle.law.specs.Calls.{over_front}
 use Rattle.law.specs.Standing.{bound_at, bounds_of, capped, Ties}
@@ -112,3 +115,20 @@ witness_of g n k w q a b before after size same c counted written = subst (λ (i
   where
     first : FirstClimb q c.up a b
     first = cycle_first g n w q a b c
+
+-- a table that solves the bounds suits them
+pub suits_of : {M : Type 0} (μ : MeasureGhosts M) (total : Amount) (n : ℕ) (t : Ties) (table : DepthTable) → Solution μ n (bounds_of μ total t) table → TableSuits μ total n t table
+suits_of μ total n t table s = record {
+  same = s.markers;
+  depths = rw s.markers s.depths;
+  solved = rw s.markers s.solved;
+}
+
+-- what was found, where the result is known
+pub found_as : {M : Type 0} (μ : MeasureGhosts M) (n : ℕ) (w : Weight μ.group) (a b : ℕ) (rows : List Row) (r : Result (Option DepthTable) Contradiction) (o p : Option DepthTable) → Lowers μ n w a b rows r → r ≡ Ok o → o ≡ p → Lowers μ n w a b rows (Ok p)
+found_as μ n w a b rows r o p h e i = subst (λ (v : Result (Option DepthTable) Contradiction). Lowers μ n w a b rows v) (e ∙ ap Ok i) h
+
+-- a value that may be there, by cases
+pub by_cases : {X : Type 0} (P : Option X → Type 0) (o : Option X) → (o ≡ None → P None) → ((x : X) → o ≡ Some x → P (Some x)) → P o
+by_cases P None f g = f refl
+by_cases P (Some x) f g = g x refl

@@ -36,7 +36,7 @@ admitted_back μ None h = refl
 admitted_back μ (Some v) h = h v refl
 
 module _ {S M : Type 0} (st : StoreGhosts S) (μ : MeasureGhosts M) (s : Held S) (suits : Suits st μ s) (open_now : s.state ≡ state.Open) (a b : ℕ) (o : Option Amount)
-    (admitted : admitted_step μ o ≡ true) (store : S) (sound : st.sound store) (meaning : st.meaning store ≡ changed_meaning (st.meaning s.store) a b o) where
+    (admitted : admitted_step μ o ≡ true) (store : S) (meaning : st.meaning store ≡ changed_meaning (st.meaning s.store) a b o) where
   opened : is_new s.state ≡ false
   opened = ap is_new open_now
 
@@ -49,10 +49,10 @@ module _ {S M : Type 0} (st : StoreGhosts S) (μ : MeasureGhosts M) (s : Held S)
       → (r : Counts) → r ≡ counts μ s.table table → Upheld st μ (to table) × Settled μ (model st s) a b o r (model st (to table))
   settled_with table fits kept r counted = (
     record {
-      suits = after_suits st μ s suits opened a b o (step_admitted μ o admitted) store sound meaning table fits;
+      suits = after_suits st μ s suits opened a b o (step_admitted μ o admitted) store meaning table fits;
       trial = subst (StateSuits μ s.total (st.meaning store)) (sym open_now) tt;
     },
-    after_settled st μ s suits opened a b o (step_admitted μ o admitted) store sound meaning table fits kept open_now r counted,
+    after_settled st μ s suits opened a b o (step_admitted μ o admitted) store meaning table fits kept open_now r counted,
   )
 
   -- once it has adopted the next table, if there is one

@@ -116,7 +116,7 @@ module _ {S M : Type 0} (st : StoreGhosts S) (μ : MeasureGhosts M) (s s' : Held
       (subst (λ (i : ℕ). Fits μ.group i (bounds_of μ s.total (st.meaning s.store).tie) (λ z. μ.value (deep s.table.rows z))) old.same old.solved.fits)
 
   trial_suits : Suits st μ on_trial_now
-  trial_suits = record { sound = suits'.sound; same = suits'.same; table = λ _. suits'.table opened'; amounts = λ _. suits'.amounts opened' }
+  trial_suits = record { same = suits'.same; table = λ _. suits'.table opened'; amounts = λ _. suits'.amounts opened' }
 
   trial_can_roll_back : CanRollBack st μ on_trial_now
   trial_can_roll_back = record {

@@ -8,7 +8,7 @@ use Rattle.graph.specs.Tree.{path_to}
 use Rattle.table.specs.Climb.{deep, up}
 use Rattle.table.specs.declared.table.DepthTable.{DepthTable}
 use Rattle.update.specs.Lowering.{NegativeCycle}
-use Rattle.update.specs.declared.work.Work.{Work}
+use Rattle.update.specs.declared.work.Contradiction.{Contradiction}
 use Rattle.law.specs.Amounts.{same_value}
 use Rattle.law.specs.Calls.{tally}
 use Rattle.law.specs.Refusals.{first, when}
@@ -67,7 +67,7 @@ module _ {M : Type 0} (μ : MeasureGhosts M) where
       → path_to (up new.rows) old.n m ≡ path_to (up old.rows) old.n m
 
   -- what the ties t lead to from the table `old`: it still stands, or another does, or a cycle from b to a adds up to less than zero
-  abbrev pub LeadsTo : Amount → ℕ → Ties → ℕ → ℕ → DepthTable → Result (Option DepthTable) Work → Type 0
+  abbrev pub LeadsTo : Amount → ℕ → Ties → ℕ → ℕ → DepthTable → Result (Option DepthTable) Contradiction → Type 0
   LeadsTo total n t a b old (Ok None) = TableSuits μ total n t old
   LeadsTo total n t a b old (Ok (Some new)) = TableSuits μ total n t new × KeptPaths total t old new
-  LeadsTo total n t a b old (Err work) = NegativeCycle μ.group n (bounds_of μ total t) (up work.rows) a b
+  LeadsTo total n t a b old (Err found) = NegativeCycle μ.group n (bounds_of μ total t) (up found.rows) a b

@@ -6,7 +6,7 @@ use Rattle.store.specs.declared.TieStore.{Ghosts as StoreGhosts}
 use Rattle.store.specs.Meaning.{set_tie}
 use Rattle.table.specs.Climb.{up}
 use Rattle.update.specs.Lowering.{NegativeCycle}
-use Rattle.update.specs.declared.work.Work.{Work}
+use Rattle.update.specs.declared.work.Contradiction.{Contradiction}
 use Rattle.law.specs.Calls.{changes_after, Model, moved, reparented, Table}
 use Rattle.law.specs.Calls.Kind.{change}
 use Rattle.law.specs.Standing.{bounds_of, put}
@@ -31,7 +31,7 @@ module _ {M : Type 0} (μ : MeasureGhosts M) where
 
 module _ {S M : Type 0} (st : StoreGhosts S) (μ : MeasureGhosts M) where
   -- the change, or a cycle from b to a that adds up to less than zero, and the solver as it was
-  abbrev pub Settles : Held S → ℕ → ℕ → Option Amount → Result Counts Work → Held S → Type 0
+  abbrev pub Settles : Held S → ℕ → ℕ → Option Amount → Result Counts Contradiction → Held S → Type 0
   Settles s a b o (Ok r) s' = Settled μ (model st s) a b o r (model st s')
-  Settles s a b o (Err work) s' =
-      (s' ≡ s) × NegativeCycle μ.group (st.meaning s.store).count (bounds_of μ s.total (set_tie (st.meaning s.store).tie a b o)) (up work.rows) a b
+  Settles s a b o (Err found) s' =
+      (s' ≡ s) × NegativeCycle μ.group (st.meaning s.store).count (bounds_of μ s.total (set_tie (st.meaning s.store).tie a b o)) (up found.rows) a b

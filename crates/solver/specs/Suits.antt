@@ -24,7 +24,6 @@ module _ {M : Type 0} (μ : MeasureGhosts M) where
 
 module _ {S M : Type 0} (st : StoreGhosts S) (μ : MeasureGhosts M) where
   pub record Suits (s : Held S) : Type 0 where
-    pub sound : st.sound s.store
     pub same : s.table.n ≡ (st.meaning s.store).count
     pub table : is_new s.state ≡ false → TableSuits μ s.total (st.meaning s.store).count (st.meaning s.store).tie s.table
     pub amounts : is_new s.state ≡ false → Admitted μ s.total (st.meaning s.store).tie

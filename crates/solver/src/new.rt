@@ -14,7 +14,6 @@ use table::DepthTable;
 impl<S: TieStore, M: Measure> Solver<S, M> {
     /// A new solver over the ties that `store` holds. No marker may lie deeper than `total_depth`. Tokens bear `number`.
     pub fn new(store: S, measure: M, total_depth: Amount, number: u32) -> Solver<S, M>
-        requires sound { S.TieStore.sound store }
         ensures standing { (model S.TieStore result).standing ≡ standing_of (S.TieStore.meaning store) total_depth number state.New }
         ensures changes { (model S.TieStore result).changes ≡ 0 }
         ensures tells { Tells M.Measure (model S.TieStore result).standing [] (model S.TieStore result) }

@@ -14,11 +14,11 @@ use graph::Graph;
 use measure::Measure;
 use store::TieStore;
 use table::DepthTable;
-use update::{Lowering, Work};
+use update::{Contradiction, Update};
 
 impl<S: TieStore, M: Measure> Solver<S, M> {
     // The table of the ties with one changed, if it is another; or rows whose parents lead round a cycle.
-    pub(crate) fn next_table(&self, step: Change) -> Result<Option<DepthTable>, Work>
+    pub(crate) fn next_table(&self, step: Change) -> Result<Option<DepthTable>, Contradiction>
         requires opened { is_new self.now.state ≡ false }
         requires start { step.start < (S.TieStore.meaning self.now.store).count }
         requires end { step.end < (S.TieStore.meaning self.now.store).count }
@@ -38,17 +38,10 @@ impl<S: TieStore, M: Measure> Solver<S, M> {
             total: self.total,
             scope: Scope::Changed(step),
         };
-        match change(
-            &bounds,
-            &self.measure,
-            &self.table,
-            step.start,
-            step.end,
-            before,
-        ) {
-            Lowering::Same => Ok(None),
-            Lowering::Moved(work) => Ok(Some(finish(&bounds, &self.measure, &self.table, work))),
-            Lowering::Contradiction(work) => Err(work),
-        }
+        let update = Update::new(&bounds, &self.measure, &self.table);
+        let Some(next) = change(&update, step.start, step.end, before)? else {
+            return Ok(None);
+        };
+        Ok(Some(finish(&bounds, &self.measure, &self.table, &next)))
     }
 }

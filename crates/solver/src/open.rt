@@ -21,8 +21,7 @@ use law::{Refusal, State};
 use measure::Measure;
 use store::TieStore;
 use table::{DepthTable, trail};
-use update::Lowering;
-use update::lower::lower;
+use update::Update;
 
 impl<S: TieStore, M: Measure> Solver<S, M> {
     // The table of the ties before pair `k` becomes that of the ties up to it; or a cycle goes to the buffer's front, and its
@@ -48,10 +47,9 @@ impl<S: TieStore, M: Measure> Solver<S, M> {
         let Some(bound) = bounds.weight(a, b) else {
             return Ok(table);
         };
-        match lower(&bounds, &self.measure, &table, a, b, bound) {
-            Lowering::Same => Ok(table),
-            Lowering::Moved(work) => Ok(DepthTable::of(table.n(), work.rows)),
-            Lowering::Contradiction(work) => Err(trail(&work.rows, a, b, cycle)),
+        match Update::new(&bounds, &self.measure, &table).lower(a, b, bound) {
+            Ok(next) => Ok(next.unwrap_or(table)),
+            Err(found) => Err(trail(&found.rows, a, b, cycle)),
         }
     }
 

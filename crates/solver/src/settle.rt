@@ -12,7 +12,7 @@ use bounds::scope::Change;
 use law::Counts;
 use measure::{Amount, Measure};
 use store::TieStore;
-use update::Work;
+use update::Contradiction;
 
 impl<S: TieStore, M: Measure> Solver<S, M> {
     // Gives a pair of an open solver an amount, or none: how many markers then have another depth, and how many another parent; or rows whose
@@ -22,7 +22,7 @@ impl<S: TieStore, M: Measure> Solver<S, M> {
         from: u16,
         to: u16,
         amount: Option<Amount>,
-    ) -> Result<Counts, Work>
+    ) -> Result<Counts, Contradiction>
         requires opened { self.old.state ≡ state.Open }
         requires start { from < (S.TieStore.meaning self.old.store).count }
         requires end { to < (S.TieStore.meaning self.old.store).count }

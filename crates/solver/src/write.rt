@@ -8,10 +8,8 @@ use store::TieStore;
 
 // Gives the pair an amount, or none, where the store does not refuse it.
 pub(crate) fn set_tie<S: TieStore>(store: &mut S, from: u16, to: u16, amount: Option<Amount>)
-    requires sound { S.TieStore.sound store.old }
-    requires taken { set_answer (S.TieStore.meaning store.old) from to amount ≡ Ok tt }
-    ensures sound { S.TieStore.sound store.new }
-    ensures meaning { S.TieStore.meaning store.new ≡ changed_meaning (S.TieStore.meaning store.old) from to amount }
+    requires { set_answer (S.TieStore.meaning store.old) from to amount ≡ Ok tt }
+    ensures { S.TieStore.meaning store.new ≡ changed_meaning (S.TieStore.meaning store.old) from to amount }
 {
     match amount {
         Some(amount) => {

@@ -18,7 +18,7 @@ solve-requires g c =
     let before = c.args.cycle.now in
     let m = g.S.TieStore.meaning s.store in
     let whole : Upheld g.S.TieStore μ c.args.self.now = rw (← c.self.view_is) c.self.invariant in
-    let law = g.S.TieStore.lawful s.store whole.suits.sound in
+    let law = g.S.TieStore.lawful s.store in
     let ok : c.check_opening.result ≡ Ok tt = search rules in
     let none = opening_passed g.S.TieStore μ s before (none_of _ (sym c.check_opening.ensures ∙ ok)) in
     record {
@@ -37,7 +37,7 @@ invariant_of-self g c =
     let none = rw (← c.self.view_is) at none in
     let solved : Solves μ c.args.self.now.total (g.S.TieStore.meaning c.args.self.now.store).count (g.S.TieStore.meaning c.args.self.now.store).tie c.args.cycle.now c.solve.new.cycle (Ok c.in_ok-table.table) = search rules in
     let solved = rw (← c.self.view_is) at solved in
-    opened_upheld st μ (held c.self.inside) before none c.in_ok-table.table solved.0 c.self.invariant.suits.sound
+    opened_upheld st μ (held c.self.inside) before none c.in_ok-table.table solved.0
 
 pub returns : goal.returns
 returns g c =

@@ -22,7 +22,7 @@ invariant_of-self g c =
     (sym c.self.view_is) c.in_ok-next.ensures in
     rw c.saturating_add-self-inside.ensures
     (settled g.S.TieStore g.M.Measure (held c.self.inside) c.self.invariant.suits opened c.args.from c.args.to c.args.amount c.requires.admitted
-    c.set_tie.new.store c.set_tie.ensures.sound c.set_tie.ensures.meaning c.adopt.result c.in_ok-next.next c.adopt.new.table leads c.adopt.ensures).0
+    c.set_tie.new.store c.set_tie.ensures c.adopt.result c.in_ok-next.next c.adopt.new.table leads c.adopt.ensures).0
 
 pub returns : goal.returns
 returns g c =
@@ -31,4 +31,4 @@ returns g c =
     (sym c.self.view_is) c.in_ok-next.ensures in
     rw (← c.self.view_is, c.saturating_add-self-inside.ensures)
     (settled g.S.TieStore g.M.Measure (held c.self.inside) c.self.invariant.suits opened c.args.from c.args.to c.args.amount c.requires.admitted
-    c.set_tie.new.store c.set_tie.ensures.sound c.set_tie.ensures.meaning c.adopt.result c.in_ok-next.next c.adopt.new.table leads c.adopt.ensures).1
+    c.set_tie.new.store c.set_tie.ensures c.adopt.result c.in_ok-next.next c.adopt.new.table leads c.adopt.ensures).1

@@ -32,7 +32,7 @@ returns-in_err-table g c =
     let s = c.args.self.now in
     let m = g.S.TieStore.meaning s.store in
     let whole : Upheld g.S.TieStore μ c.args.self.now = rw (← c.self.view_is) c.self.invariant in
-    let law = g.S.TieStore.lawful s.store whole.suits.sound in
+    let law = g.S.TieStore.lawful s.store in
     let size = c.in_err-table.field-0.0 in
     let p = err_from_is_err_and c.from_residual.result c.from_residual.ensures.1 in
     rw (p.1, p.2) (subst (λ (b : List ℕ). Witness μ.group m.count (bounds_of μ s.total m.tie) b c.insert.new.cycle size) c.loop-k.invariant.1
@@ -44,7 +44,7 @@ returns g c =
     let s = c.args.self.now in
     let m = g.S.TieStore.meaning s.store in
     let whole : Upheld g.S.TieStore μ c.args.self.now = rw (← c.self.view_is) c.self.invariant in
-    let law = g.S.TieStore.lawful s.store whole.suits.sound in
+    let law = g.S.TieStore.lawful s.store in
     let last : c.loop-k.k ≡ 4096 = omega (arith, c.loop-k.auto.k-end) in
     let all = subst (λ (i : ℕ). TableSuits μ s.total m.count (in_scope m.tie (First i)) c.loop-k.table) last c.loop-k.invariant.0 in
     (insert_all m law μ s.total c.loop-k.table all, c.loop-k.invariant.1)
