@@ -60,6 +60,11 @@ abbrev pub Holds : Model → Option TrialToken → Type 0
 Holds m None = on_trial m.standing.state ≡ false
 Holds m (Some token) = (on_trial m.standing.state ≡ true) × (token.number ≡ m.standing.number)
 
+-- a token is taken that bears the number
+abbrev pub Bears : Option TrialToken → ℕ → Result TrialToken (Option TrialToken) → Type 0
+Bears token number (Ok held) = (token ≡ Some held) × (held.number ≡ number)
+Bears token number (Err other) = (other ≡ token) × ((held : TrialToken) → token ≡ Some held → ¬ (held.number ≡ number))
+
 -- the token that comes back, if one does
 abbrev pub token_back : {A : Type 0} → Result A Returned → Option TrialToken
 token_back (Ok _) = None

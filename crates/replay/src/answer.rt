@@ -5,7 +5,7 @@ ghost use Rattle.solver.specs.Model.{model};
 ghost use Rattle.replay.specs.Replays.{capped, Holds, Made, room};
 
 use crate::calls::{commit, open, path, roll_back, tie, trial};
-use crate::results::{change, row};
+use crate::results::{answer, changed};
 use law::{Answer, Call};
 use measure::Measure;
 use solver::{Solver, TrialToken};
@@ -67,7 +67,7 @@ pub fn answer_to<S: TieStore, M: Measure>(
             amount,
             room,
         } => (tie(solver, from, to, amount, room, buffer), token),
-        Call::Untie { from, to } => (change(solver.untie(from, to)), token),
+        Call::Untie { from, to } => (answer(solver.untie(from, to), changed), token),
         Call::Trial {
             from,
             to,
@@ -76,7 +76,16 @@ pub fn answer_to<S: TieStore, M: Measure>(
         } => trial(solver, from, to, amount, room, buffer, token),
         Call::Commit { number } => commit(solver, number, token),
         Call::RollBack { number } => roll_back(solver, number, token),
-        Call::Depth { marker } => (row(solver.depth(marker)), token),
+        Call::Depth { marker } => (
+            answer(
+                solver.depth(marker),
+                |row| Answer::Row {
+                    depth: row.depth,
+                    parent: row.parent,
+                },
+            ),
+            token,
+        ),
         Call::Path { marker, room } => (path(solver, marker, room, buffer), token),
     }
 }

@@ -3,13 +3,17 @@
 ghost use Rattle.std.specs.Prelude.{◌≡◌, ◌≤◌, [], length};
 ghost use Rattle.law.specs.declared.call.Call.TheVariants as call;
 ghost use Rattle.solver.specs.Model.{model};
-ghost use Rattle.replay.specs.Replays.{Holds, Made};
+ghost use Rattle.replay.specs.Replays.{Bears, Holds, Made};
 
-use crate::results::{change, committing, opening, path_length, rolling_back};
-use law::{Answer, Counts, Refusal};
+use crate::results::{answer, changed, ended};
+use law::{Answer, Refusal};
 use measure::{Amount, Measure};
 use solver::{Solver, TrialToken};
 use store::TieStore;
+
+const WRONG_TOKEN: Answer = Answer::Refused {
+    why: Refusal::WrongToken,
+};
 
 pub(crate) fn open<S: TieStore, M: Measure>(
     solver: &mut Solver<S, M>,
@@ -19,7 +23,10 @@ pub(crate) fn open<S: TieStore, M: Measure>(
     requires fits { room ≤ length buffer.old }
     ensures made { Made M.Measure (model S.TieStore solver.old) (call.Open room) result buffer.new (model S.TieStore solver.new) }
 {
-    opening(solver.open(&mut buffer[0..room]))
+    answer(
+        solver.open(&mut buffer[0..room]),
+        |markers| Answer::Opened { markers },
+    )
 }
 
 pub(crate) fn tie<S: TieStore, M: Measure>(
@@ -33,7 +40,7 @@ pub(crate) fn tie<S: TieStore, M: Measure>(
     requires fits { room ≤ length buffer.old }
     ensures made { Made M.Measure (model S.TieStore solver.old) (call.Tie from to amount room) result buffer.new (model S.TieStore solver.new) }
 {
-    change(solver.tie(from, to, amount, &mut buffer[0..room]))
+    answer(solver.tie(from, to, amount, &mut buffer[0..room]), changed)
 }
 
 pub(crate) fn path<S: TieStore, M: Measure>(
@@ -45,7 +52,9 @@ pub(crate) fn path<S: TieStore, M: Measure>(
     requires fits { room ≤ length buffer.old }
     ensures { Made M.Measure (model S.TieStore solver.now) (call.Path marker room) result buffer.new (model S.TieStore solver.now) }
 {
-    path_length(solver.path(marker, &mut buffer[0..room]))
+    answer(solver.path(marker, &mut buffer[0..room]), |length| {
+        Answer::Length { length }
+    })
 }
 
 pub(crate) fn trial<S: TieStore, M: Measure>(
@@ -63,12 +72,22 @@ pub(crate) fn trial<S: TieStore, M: Measure>(
     ensures holds { Holds (model S.TieStore solver.new) result.1 }
 {
     match solver.trial(from, to, amount, &mut buffer[0..room]) {
-        Ok((Counts { moved, reparented }, new)) => match token {
-            None => (Answer::Changed { moved, reparented }, Some(new)),
+        Ok((counts, new)) => match token {
+            None => (changed(counts), Some(new)),
             // while a trial is out no other is accepted
             Some(_held) => unreachable(),
         },
         Err(why) => (Answer::Refused { why }, token),
+    }
+}
+
+// The token in hand, if it bears the number; else what is in hand, again.
+fn bearing(token: Option<TrialToken>, number: u32) -> Result<TrialToken, Option<TrialToken>>
+    ensures { Bears token number result }
+{
+    match token {
+        Some(held) if held.number() == number => Ok(held),
+        other => Err(other),
     }
 }
 
@@ -82,16 +101,10 @@ pub(crate) fn commit<S: TieStore, M: Measure>(
     ensures made { Made M.Measure (model S.TieStore solver.old) (call.Commit number) result.0 [] (model S.TieStore solver.new) }
     ensures holds { Holds (model S.TieStore solver.new) result.1 }
 {
-    let refused = Answer::Refused {
-        why: Refusal::WrongToken,
-    };
-    let Some(held) = token else {
-        return (refused, None);
-    };
-    if held.number() != number {
-        return (refused, Some(held));
+    match bearing(token, number) {
+        Ok(held) => ended(solver.commit(held), |()| Answer::Committed),
+        Err(token) => (WRONG_TOKEN, token),
     }
-    committing(solver.commit(held))
 }
 
 // Rolls back by the token in hand, if it bears the number.
@@ -104,14 +117,8 @@ pub(crate) fn roll_back<S: TieStore, M: Measure>(
     ensures made { Made M.Measure (model S.TieStore solver.old) (call.RollBack number) result.0 [] (model S.TieStore solver.new) }
     ensures holds { Holds (model S.TieStore solver.new) result.1 }
 {
-    let refused = Answer::Refused {
-        why: Refusal::WrongToken,
-    };
-    let Some(held) = token else {
-        return (refused, None);
-    };
-    if held.number() != number {
-        return (refused, Some(held));
+    match bearing(token, number) {
+        Ok(held) => ended(solver.roll_back(held), changed),
+        Err(token) => (WRONG_TOKEN, token),
     }
-    rolling_back(solver.roll_back(held))
 }

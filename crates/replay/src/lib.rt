@@ -37,13 +37,11 @@ pub fn replay<S: TieStore, M: Measure>(
     ensures lawful { Replayed M.Measure (model S.TieStore solver.old) entries.new (model S.TieStore solver.new) }
 {
     let mut held = token;
-    for i in 0..entries.len() {
-        let mut entry = entries[i];
+    for entry in entries.iter_mut() {
         entry.call = cap(entry.call);
         let (answer, left) = answer_to(solver, entry.call, held, &mut entry.buffer);
         held = left;
         entry.answer = answer;
-        entries[i] = entry;
     }
     held
 }

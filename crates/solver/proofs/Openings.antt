@@ -24,13 +24,22 @@ use Rattle.law.specs.declared.call.State.TheVariants as state
 use Rattle.bounds.specs.Small.{BoundsSound}
 use Rattle.solver.specs.Held.{Held}
 use Rattle.solver.specs.Model.{model}
-use Rattle.solver.specs.Opening.{as_result, opening_refusal, Witness}
+use Rattle.solver.specs.Opening.{as_result, Witness}
 use Rattle.solver.specs.Suits.{Admitted, Suits, TableSuits}
 use Rattle.solver.specs.Trials.{Upheld}
 use Rattle.law.proofs.Answers.{accepted, contradicted, skips}
 use Rattle.law.proofs.Scans.{lowest_some}
 use Rattle.law.proofs.Scans as scans
 use Rattle.law.proofs.Tables as tables
+
+-- the checks of an opening that come after that of the state
+abbrev opening_refusal : {M : Type 0} → MeasureGhosts M → Amount → StoreMeaning → ℕ → Option Refusal
+opening_refusal μ total m room =
+    first
+    (when (not (μ.admits total) || at_most μ total μ.zero) BadAmount
+    ∷ when (ltb room m.count) ShortBuffer
+    ∷ first_bad_tie μ m.count m.tie
+    ∷ [])
 
 some_none : {A : Type 0} (x : A) → Some x ≡ None → ⊥
 some_none x e = let z : ◌≡◌ {A = ℕ} 0 1 = cc in omega arith

@@ -1,6 +1,6 @@
 -- Readings of a solver that is open. Assumes nothing.
 use Rattle.std.proofs.Common.{◌≡◌, ℕ, ◌<◌, ◌≤◌, false, not, ltb, List, [], ◌∷◌, length, None, Option, refl, ap, ◌∙◌, subst, inl, inr, arith}
-use Rattle.std.proofs.lemmas.Bool.{le-ltb, lt-ltb}
+use Rattle.std.proofs.lemmas.Bool.{le-ltb, lt-ltb, ltb-true}
 use Rattle.measure.specs.declared.Measure as measure
 use Rattle.law.specs.Calls.{Answered, Model, Outcome, over_front, path}
 use Rattle.law.specs.Refusals.{first_refusal, is_new, when}
@@ -11,6 +11,17 @@ use Rattle.law.specs.declared.call.Refusal.{Refusal}
 use Rattle.law.specs.declared.call.Refusal.TheVariants.{NotOpen, UnknownMarker, ShortBuffer}
 use Rattle.table.specs.declared.row.Row.{Row}
 use Rattle.law.proofs.Answers.{accepted, skips}
+use Rattle.law.specs.Standing.{Standing}
+use Rattle.solver.proofs.Openings.{passed}
+use Rattle.solver.proofs.Ties.{not-false}
+
+-- a marker that passed its checks
+module _ {M : Type 0} (μ : measure.Ghosts M) (s : Standing) (k : ℕ) (none : first_refusal μ s (call.Depth k) ≡ None) where
+  pub marker_open : is_new s.state ≡ false
+  marker_open = (passed (is_new s.state) NotOpen _ none).0
+
+  pub marker_known : k < s.count
+  marker_known = ltb-true k s.count (not-false (ltb k s.count) (passed (not (ltb k s.count)) UnknownMarker [] (passed (is_new s.state) NotOpen _ none).1).0)
 
 module _ {M : Type 0} (μ : measure.Ghosts M) (m : Model) (k : ℕ) (opened : is_new m.standing.state ≡ false) (known : k < m.standing.count) where
   depth_passes : first_refusal μ m.standing (call.Depth k) ≡ None

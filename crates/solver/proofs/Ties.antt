@@ -28,7 +28,7 @@ use Rattle.law.specs.declared.call.State.TheVariants as state
 use Rattle.law.proofs.Answers.{contradicted, ends_with_last, skips}
 use Rattle.bounds.proofs.Limits.{cleared_raised}
 use Rattle.solver.specs.Held.{Held}
-use Rattle.solver.specs.Changing.{pair_refusal, tie_refusal, untie_refusal}
+use Rattle.solver.specs.Changing.{pair_refusal, untie_refusal}
 use Rattle.solver.specs.Model.{model}
 use Rattle.solver.specs.Suits.{TableSuits}
 use Rattle.solver.specs.Writing.{changed_meaning, set_answer}
@@ -38,6 +38,15 @@ use Rattle.law.specs.declared.call.Call.{Call}
 use Rattle.law.proofs.Answers.{accepted}
 use Rattle.law.specs.Standing.{put, Standing, took}
 use Rattle.solver.proofs.Openings.{passed}
+
+-- the checks of a tie that come after those of the state
+abbrev pub tie_refusal : {M : Type 0} → MeasureGhosts M → StoreMeaning → ℕ → ℕ → Amount → ℕ → Option Refusal
+tie_refusal μ m a b w room =
+    pair_refusal m a b
+    (when (not (μ.admits w)) BadAmount
+    ∷ when (ltb room m.count) ShortBuffer
+    ∷ when (not (is_some (m.tie a b)) && eqb m.free 0) StoreFull
+    ∷ [])
 
 pub not-false : (b : Bool) → not b ≡ false → b ≡ true
 not-false true e = refl

@@ -21,13 +21,13 @@ use Rattle.law.specs.declared.call.Counts.{Counts}
 use Rattle.law.specs.declared.call.State.TheVariants as state
 use Rattle.law.proofs.Answers.{skips}
 use Rattle.solver.specs.Held.{Held}
-use Rattle.solver.specs.Changing.{tie_refusal, untie_refusal}
+use Rattle.solver.specs.Changing.{untie_refusal}
 use Rattle.solver.specs.Settling.{Settled}
 use Rattle.solver.specs.Model.{model}
 use Rattle.solver.specs.Suits.{Suits}
 use Rattle.solver.specs.Trials.{CanRollBack, StateSuits, TrialSuits, Upheld}
 use Rattle.solver.proofs.Openings.{passed}
-use Rattle.solver.proofs.Ties.{settled_answered, tie_stands}
+use Rattle.solver.proofs.Ties.{pair_passed, settled_answered, tie_refusal, tie_stands}
 
 -- ---- the answer of a trial, by that of the tie
 
@@ -101,7 +101,7 @@ module _ {S M : Type 0} (st : StoreGhosts S) (μ : MeasureGhosts M) (s s' : Held
     (none : first_refusal μ (model st s).standing (call.Tie a b w room) ≡ None)
     (stands : (model st s').standing ≡ put (model st s).standing a b (Some w) s.state) where
   state_passed : (is_new s.state ≡ false) × (tie_refusal μ (st.meaning s.store) a b w room ≡ None)
-  state_passed = let new = passed (is_new s.state) NotOpen _ none in (new.0, (passed (on_trial s.state) TrialOut _ new.1).1)
+  state_passed = ((passed (is_new s.state) NotOpen _ none).0, pair_passed μ (model st s).standing a b _ none)
 
   opened' : is_new s'.state ≡ false
   opened' = ap (λ (x : Standing). is_new x.state) stands ∙ state_passed.0

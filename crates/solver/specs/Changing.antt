@@ -1,4 +1,4 @@
--- What ties and untyings check, and what a change makes of a solver. Assumes nothing.
+-- What a pair that is tied is checked for, and what a change leads to. Assumes nothing.
 use Rattle.std.specs.Prelude.{◌≡◌, ℕ, ◌<◌, not, ◌&&◌, ◌||◌, List, [], ◌∷◌, is_some, Some, None, Ok, Err, Option, Result, ◌==◌, nat_lt}
 use Rattle.measure.specs.declared.Amount.{Amount}
 use Rattle.measure.specs.declared.Measure.{Ghosts as MeasureGhosts}
@@ -15,7 +15,7 @@ use Rattle.law.specs.Refusals.{first, when}
 use Rattle.law.specs.Standing.{bounds_of, Ties}
 use Rattle.law.specs.declared.call.Counts.{Counts}
 use Rattle.law.specs.declared.call.Refusal.{Refusal}
-use Rattle.law.specs.declared.call.Refusal.TheVariants.{UnknownMarker, SameMarker, ClosedMarker, BadAmount, ShortBuffer, PairEmpty, StoreFull}
+use Rattle.law.specs.declared.call.Refusal.TheVariants.{UnknownMarker, SameMarker, ClosedMarker, PairEmpty}
 use Rattle.solver.specs.Suits.{TableSuits}
 
 -- the checks of a pair, and then others
@@ -32,15 +32,6 @@ abbrev pub untie_refusal : StoreMeaning → ℕ → ℕ → Option Refusal
 untie_refusal m a b = pair_refusal m a b (when (not (is_some (m.tie a b))) PairEmpty ∷ [])
 
 module _ {M : Type 0} (μ : MeasureGhosts M) where
-  -- the refusal of a tie
-  abbrev pub tie_refusal : StoreMeaning → ℕ → ℕ → Amount → ℕ → Option Refusal
-  tie_refusal m a b w room =
-      pair_refusal m a b
-      (when (not (μ.admits w)) BadAmount
-      ∷ when (nat_lt room m.count) ShortBuffer
-      ∷ when (not (is_some (m.tie a b)) && m.free == 0) StoreFull
-      ∷ [])
-
   -- how many markers have another depth, and how many another parent
   abbrev pub counts : DepthTable → DepthTable → Counts
   counts t t' = record {

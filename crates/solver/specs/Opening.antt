@@ -28,15 +28,6 @@ pub record Witness (g : OrderedGroup) (n : ℕ) (w : Weight g) (before after : L
   pub buffer : after ≡ over_front markers before
 
 module _ {M : Type 0} (μ : MeasureGhosts M) (total : Amount) where
-  -- the refusal of an opening, once the solver is known to be new
-  abbrev pub opening_refusal : StoreMeaning → ℕ → Option Refusal
-  opening_refusal m room =
-      first
-      (when (not (μ.admits total) || at_most μ total μ.zero) BadAmount
-      ∷ when (nat_lt room m.count) ShortBuffer
-      ∷ first_bad_tie μ m.count m.tie
-      ∷ [])
-
   -- what comes of solving the ties t
   abbrev pub Solves : ℕ → Ties → List ℕ → List ℕ → Result DepthTable ℕ → Type 0
   Solves n t before after (Ok table) = TableSuits μ total n t table × (after ≡ before)

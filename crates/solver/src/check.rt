@@ -61,6 +61,19 @@ impl<S: TieStore, M: Measure> Solver<S, M> {
         self.check_ties()
     }
 
+    // Why nothing may be read of a marker.
+    pub(crate) fn check_marker(&self, marker: u16) -> Result<(), Refusal>
+        ensures { result ≡ as_result (first_refusal M.Measure (model S.TieStore self.now).standing (call.Depth marker)) }
+    {
+        if let State::New = self.state {
+            return Err(Refusal::NotOpen);
+        }
+        if marker >= self.store.marker_count() {
+            return Err(Refusal::UnknownMarker);
+        }
+        Ok(())
+    }
+
     // Why the pair may be neither tied nor cleared.
     fn check_pair(&self, from: u16, to: u16) -> Result<(), Refusal>
         ensures { result ≡ as_result (first (pair_checks M.Measure (model S.TieStore self.now).standing from to [])) }

@@ -8,7 +8,7 @@ ghost use Rattle.law.specs.declared.call.Call.TheVariants as call;
 ghost use Rattle.solver.specs.Model.{model};
 
 use crate::solver::Solver;
-use law::{Refusal, State};
+use law::Refusal;
 use measure::Measure;
 use store::TieStore;
 
@@ -18,17 +18,10 @@ impl<S: TieStore, M: Measure> Solver<S, M> {
         ensures answered { Answered M.Measure (model S.TieStore self.now) (call.Path marker (length out.old)) out.old (read_path result) out.new (model S.TieStore self.now) }
         ensures logged { Logged M.Measure (model S.TieStore self.now) (call.Path marker (length out.old)) (read_path result) out.new (model S.TieStore self.now) }
     {
-        match self.state {
-            State::New => Err(Refusal::NotOpen),
-            State::Open | State::OnTrial { .. } => {
-                if marker >= self.table.n() {
-                    return Err(Refusal::UnknownMarker);
-                }
-                if out.len() < self.table.n() as usize {
-                    return Err(Refusal::ShortBuffer);
-                }
-                Ok(self.table.path(marker, out))
-            }
+        self.check_marker(marker)?;
+        if out.len() < self.table.n() as usize {
+            return Err(Refusal::ShortBuffer);
         }
+        Ok(self.table.path(marker, out))
     }
 }

@@ -7,7 +7,7 @@ ghost use Rattle.law.specs.declared.call.Call.TheVariants as call;
 ghost use Rattle.solver.specs.Model.{model, read_row};
 
 use crate::solver::Solver;
-use law::{Refusal, State};
+use law::Refusal;
 use measure::Measure;
 use store::TieStore;
 use table::Row;
@@ -18,15 +18,8 @@ impl<S: TieStore, M: Measure> Solver<S, M> {
         ensures answered { Answered M.Measure (model S.TieStore self.now) (call.Depth marker) [] (read_row result) [] (model S.TieStore self.now) }
         ensures logged { Logged M.Measure (model S.TieStore self.now) (call.Depth marker) (read_row result) [] (model S.TieStore self.now) }
     {
-        match self.state {
-            State::New => Err(Refusal::NotOpen),
-            State::Open | State::OnTrial { .. } => {
-                if marker >= self.table.n() {
-                    return Err(Refusal::UnknownMarker);
-                }
-                Ok(self.table.row(marker))
-            }
-        }
+        self.check_marker(marker)?;
+        Ok(self.table.row(marker))
     }
 
     /// How many changes were accepted; it stays at its largest value.

@@ -1,4 +1,4 @@
-use Rattle.std.proofs.Common.{refl}
+use Rattle.std.proofs.Common.{refl, rules}
 use Rattle.law.specs.declared.call.Call.TheVariants as call
 use Rattle.replay.proofs.Holding.{holds_on}
 use Rattle.replay.proofs.Making.{as_call, bare}
@@ -26,6 +26,6 @@ returns-in-Untie g c =
     let told = c.untie.ensures.answered in
     let t = c.in-Untie in
     record {
-      made = as_call g.M.Measure _ _ _ _ _ _ t.is (bare g.M.Measure _ _ (call.Untie t.from t.to) _ _ _ c.change.ensures refl told);
+      made = as_call g.M.Measure _ _ _ _ _ _ t.is (bare g.M.Measure _ _ (call.Untie t.from t.to) _ _ _ (search rules) refl told);
       holds = holds_on g.M.Measure _ _ (call.Untie t.from t.to) _ _ _ c.args.token tt told c.requires.holds;
     }

@@ -5,5 +5,5 @@ use Rattle.replay.proofs.calls.open.Goals as goal
 
 pub returns : goal.returns
 returns g c = record {
-  made = part g.M.Measure _ _ (λ k. call.Open k) _ _ c.args.room _ c.open.new.cycle _ c.opening.ensures (λ j. refl) (search rules) (search rules) c.open.ensures.answered;
+  made = part g.M.Measure _ _ (λ k. call.Open k) _ _ c.args.room _ c.open.new.cycle _ (search rules) (λ j. refl) (search rules) (search rules) c.open.ensures.answered;
 }

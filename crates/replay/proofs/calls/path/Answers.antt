@@ -5,4 +5,4 @@ use Rattle.replay.proofs.calls.path.Goals as goal
 
 pub returns : goal.returns
 returns g c =
-    part g.M.Measure _ _ (λ k. call.Path c.args.marker k) _ _ c.args.room _ c.path.new.out _ c.path_length.ensures (λ j. refl) (search rules) (search rules) c.path.ensures.answered
+    part g.M.Measure _ _ (λ k. call.Path c.args.marker k) _ _ c.args.room _ c.path.new.out _ (search rules) (λ j. refl) (search rules) (search rules) c.path.ensures.answered

@@ -8,7 +8,7 @@ pub returns-in-None : goal.returns-in-None
 returns-in-None g c =
     let done = c.in-Ok.ensures in
     record {
-      made = part g.M.Measure _ _ (λ k. call.Trial c.args.from c.args.to c.args.amount k) _ _ c.args.room _ c.trial.new.cycle _ refl (λ j. refl) (search rules) (search rules) done.answered;
+      made = part g.M.Measure _ _ (λ k. call.Trial c.args.from c.args.to c.args.amount k) _ _ c.args.room _ c.trial.new.cycle _ (search rules) (λ j. refl) (search rules) (search rules) done.answered;
       holds = trial_holds g.M.Measure _ _ _ _ _ _ _ _ _ _ c.in-Ok.new done.answered done.numbered;
     }
 
@@ -16,6 +16,6 @@ pub returns-in-Err : goal.returns-in-Err
 returns-in-Err g c =
     let done = c.in-Err.ensures in
     record {
-      made = part g.M.Measure _ _ (λ k. call.Trial c.args.from c.args.to c.args.amount k) _ _ c.args.room _ c.trial.new.cycle _ refl (λ j. refl) (search rules) (search rules) done.answered;
+      made = part g.M.Measure _ _ (λ k. call.Trial c.args.from c.args.to c.args.amount k) _ _ c.args.room _ c.trial.new.cycle _ (search rules) (λ j. refl) (search rules) (search rules) done.answered;
       holds = trial_refused g.M.Measure _ _ _ _ _ _ _ _ c.in-Err.why c.args.token done.answered c.requires.holds;
     }

@@ -62,19 +62,8 @@ returns-in_err-check_tie g c =
     let told = refused μ (model g.S.TieStore c.args.self.now) k before (answer.Refused why) before _ why some refl refl refl in
     rw (p.1, p.2) (record { answered = told; logged = goes_on μ _ _ k before _ _ told })
 
-pub returns-in-Ok : goal.returns-in-Ok
-returns-in-Ok g c =
-    let st = g.S.TieStore in
-    let μ = g.M.Measure in
-    let t = c.args in
-    let before = c.args.cycle.now in
-    let m = model st c.args.self.now in
-    let k = call.Tie t.from t.to t.amount (length before) in
-    let ok : c.check_tie.result ≡ Ok tt = search rules in
-    let none = none_of _ (sym c.check_tie.ensures ∙ ok) in
-    let opened = pair_open μ m.standing t.from t.to _ none in
-    let told = settled_answered μ m (model st c.settle.new.self) t.from t.to (Some t.amount) c.in-Ok.counts c.in-Ok.ensures k before none refl (ap (put m.standing t.from t.to (Some t.amount)) opened) refl refl in
-    record { answered = told; logged = goes_on μ m _ k before _ _ told }
+pub returns-in-Ok-clause-logged : goal.returns-in-Ok-clause-logged
+returns-in-Ok-clause-logged g c = goes_on g.M.Measure _ _ (call.Tie c.args.from c.args.to c.args.amount (length c.args.cycle.now)) c.args.cycle.now _ _ (search rules)
 
 pub returns-in-Err : goal.returns-in-Err
 returns-in-Err g c =
