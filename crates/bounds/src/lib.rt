@@ -41,21 +41,9 @@ impl<'s, S: TieStore, M: Measure> Bounds<'s, S, M> {
         ensures { result ≡ in_scope (S.TieStore.meaning self.now.store.now).tie self.now.scope from to }
     {
         match self.scope {
-            Scope::All => self.store.amount(from, to),
-            Scope::Changed(change) => {
-                if from == change.start && to == change.end {
-                    change.amount
-                } else {
-                    self.store.amount(from, to)
-                }
-            }
-            Scope::First(k) => {
-                if k > from as usize * 64 + to as usize {
-                    self.store.amount(from, to)
-                } else {
-                    None
-                }
-            }
+            Scope::Changed(change) if from == change.start && to == change.end => change.amount,
+            Scope::First(k) if from as usize * 64 + to as usize >= k => None,
+            _ => self.store.amount(from, to),
         }
     }
 }

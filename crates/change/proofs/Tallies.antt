@@ -41,13 +41,6 @@ module _ (f : ℕ → Bool) where
       joined : (v : Bool) (j : ℕ) → v ≡ false → j ≡ 0 → cond v 1 0 + j ≡ 0
       joined v j p q = rw (p, q) refl
 
--- the parents a and b were read as d and e
-pub other_parent : (a b d e : ℕ) → d ≡ a → e ≡ b → (d ≡ e → ⊥) → not (eqb a b) ≡ true
-other_parent a b d e p q ne = ap not (ne_eqb a b (λ h. ne (p ∙ h ∙ sym q)))
-
-pub same_parent : (a b d e : ℕ) → d ≡ a → e ≡ b → d ≡ e → not (eqb a b) ≡ false
-same_parent a b d e p q h = ap not (eq-eqb a b (sym p ∙ h ∙ q))
-
 -- no marker has another parent than it has
 pub none_reparented : (n : ℕ) (p : ℕ → ℕ) → tally n (λ k. not (eqb (p k) (p k))) ≡ 0
 none_reparented n p = tally_none (λ k. not (eqb (p k) (p k))) (λ k. ap not (eq-eqb (p k) (p k) refl)) n
@@ -67,23 +60,6 @@ module _ {M : Type 0} (μ : measure.Ghosts M) where
 
   same_is : (a b : Amount) → μ.value a ≡ μ.value b → not (same_value μ a b) ≡ false
   same_is a b e = joined (at_most μ a b) (at_most μ b a) true true (equal a b e) (equal b a (sym e))
-
-  abbrev Rank : Ordering → Amount → Amount → Type 0
-  Rank o a b = MatchOrdering o (Lt μ.group (μ.value a) (μ.value b)) (μ.value a ≡ μ.value b) (Lt μ.group (μ.value b) (μ.value a))
-
-  differs : (o : Ordering) (a b : Amount) → Rank o a b → not (same_value μ a b) ≡ is_ne o
-  differs Less a b r = less (at_most μ a b) (at_most μ b a) (at_most_not b a r)
-    where
-      less : (s t : Bool) → t ≡ false → not (s && t) ≡ true
-      less true t h = rw h refl
-      less false t h = refl
-  differs Equal a b r = same_is a b r
-  differs Greater a b r = joined (at_most μ a b) (at_most μ b a) false (at_most μ b a) (at_most_not a b r) refl
-
-  -- the depths a and b were read as d and e, and compared
-  pub differs_by : (o : Ordering) (a b d e : Amount) → d ≡ a → e ≡ b → μ.within 256 a → μ.within 256 b → (μ.within 256 d → μ.within 256 e → Rank o d e) → not (same_value μ a b) ≡ is_ne o
-  differs_by o a b d e p q ha hb told =
-      differs o a b (subst (λ u. μ.within 256 u → μ.within 256 b → Rank o u b) p (subst (λ u. μ.within 256 d → μ.within 256 u → Rank o d u) q told) ha hb)
 
   -- no marker has another depth than it has
   pub none_moved : (n : ℕ) (d : ℕ → Amount) → tally n (λ k. not (same_value μ (d k) (d k))) ≡ 0

@@ -1,4 +1,4 @@
-ghost use Rattle.std.specs.Prelude.{◌≡◌, not, ◌==◌};
+ghost use Rattle.std.specs.Prelude.{◌≡◌, ℕ, ◌<◌, ◌≤◌, Bool, not, ◌==◌};
 ghost use Rattle.law.specs.Amounts.{same_value};
 ghost use Rattle.law.specs.Calls.{tally};
 ghost use Rattle.table.specs.Climb.{deep, up as parents_of};
@@ -7,6 +7,20 @@ ghost use Rattle.update.specs.Reading.{Deep};
 use measure::Measure;
 use table::DepthTable;
 
+// How many of the first n markers differ.
+fn how_many<F: Fn(u16) -> bool>(n: u16, differs: F) -> u16
+    requires { (k : ℕ) → k < n → F.pre differs k }
+    ensures { (f : ℕ → Bool) → ((k : ℕ) (r : Bool) → k < n → F.post differs k r → r ≡ f k) → result ≡ tally n f }
+{
+    let mut count: u16 = 0;
+    for m in 0..n {
+        if differs(m) {
+            count += 1;
+        }
+    }
+    count
+}
+
 /// How many markers have another depth in the new table.
 pub fn moved<M: Measure>(measure: &M, old: &DepthTable, new: &DepthTable) -> u16
     requires same { new.now.n ≡ old.now.n }
@@ -14,13 +28,10 @@ pub fn moved<M: Measure>(measure: &M, old: &DepthTable, new: &DepthTable) -> u16
     requires new { Deep M.Measure old.now.n 256 new.now.rows }
     ensures { result ≡ tally old.now.n (λ k. not (same_value M.Measure (deep old.now.rows k) (deep new.now.rows k))) }
 {
-    let mut depths: u16 = 0;
-    for m in 0..old.n() {
-        if measure.compare(old.depth(m), new.depth(m)).is_ne() {
-            depths += 1;
-        }
-    }
-    depths
+    let differs = |m: u16| -> bool
+        requires { (m < old.now.n) × (m < new.now.n) }
+    { measure.compare(old.depth(m), new.depth(m)).is_ne() };
+    how_many(old.n(), differs)
 }
 
 /// How many markers have another parent in the new table.
@@ -28,11 +39,5 @@ pub fn reparented(old: &DepthTable, new: &DepthTable) -> u16
     requires { new.now.n ≡ old.now.n }
     ensures { result ≡ tally old.now.n (λ k. not (parents_of old.now.rows k == parents_of new.now.rows k)) }
 {
-    let mut parents: u16 = 0;
-    for m in 0..old.n() {
-        if old.parent(m) != new.parent(m) {
-            parents += 1;
-        }
-    }
-    parents
+    how_many(old.n(), |m| old.parent(m) != new.parent(m))
 }
