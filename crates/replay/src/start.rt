@@ -39,7 +39,6 @@ pub fn replay_new<S: TieStore, M: Measure>(
     number: u32,
     entries: &mut [Entry],
 ) -> Run<S, M>
-    requires sound { S.TieStore.sound store }
     ensures holds { Holds (model S.TieStore result.solver) result.token }
     ensures lawful { Lawful M.Measure (standing_of (S.TieStore.meaning store) total_depth number state.New) (log_of entries.new) }
 {

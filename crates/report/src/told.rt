@@ -5,7 +5,6 @@ ghost use Rattle.depth_text.specs.Lines.{Adds, rows_text};
 ghost use Rattle.law.specs.Refusals.{cycle_length, is_new};
 ghost use Rattle.sheet_text.specs.Naming.{names_of};
 ghost use Rattle.solver.specs.Model.{model};
-ghost use Rattle.solver.specs.Suits.{Suits};
 ghost use Rattle.report.specs.Refusing.{Front, refusal_text};
 ghost use Rattle.report.specs.Told.{AddsTold};
 
@@ -24,7 +23,6 @@ fn add_rows<S: TieStore, M: Measure>(
     solver: &Solver<S, M>,
     n: u16,
 ) -> Result<(), AllocError>
-    requires suits { Suits S.TieStore M.Measure solver.now }
     requires opened { is_new (model S.TieStore solver.now).standing.state ≡ false }
     requires known { n ≤ (model S.TieStore solver.now).standing.count }
     ensures { Adds out.old.items (rows_text (λ m. slice_index_or (names_of names.now) m []) (model S.TieStore solver.now).depth (model S.TieStore solver.now).parent n) result out.new.items }
@@ -63,8 +61,7 @@ fn add_opened<S: TieStore + Drop, M: Measure + Drop>(
     total_depth: Amount,
     cycle: &mut [u16; 64],
 ) -> Result<bool, AllocError>
-    requires sound { S.TieStore.sound store }
-    requires named { length (names_of names.now) ≡ (S.TieStore.meaning store).count }
+    requires { length (names_of names.now) ≡ (S.TieStore.meaning store).count }
     ensures { AddsTold M.Measure total_depth (S.TieStore.meaning store) (λ m. slice_index_or (names_of names.now) m []) out.old.items out.new.items result }
 {
     let mut solver = Solver::new(store, measure, total_depth, 0);
@@ -89,8 +86,7 @@ pub fn add_answer<S: TieStore + Drop, M: Measure + Drop>(
     measure: M,
     total_depth: Amount,
 ) -> Result<bool, AllocError>
-    requires sound { S.TieStore.sound store }
-    requires named { length (names_of names.now) ≡ (S.TieStore.meaning store).count }
+    requires { length (names_of names.now) ≡ (S.TieStore.meaning store).count }
     ensures { AddsTold M.Measure total_depth (S.TieStore.meaning store) (λ m. slice_index_or (names_of names.now) m []) out.old.items out.new.items result }
 {
     let mut cycle = [0u16; 64];

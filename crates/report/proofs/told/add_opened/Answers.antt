@@ -26,7 +26,7 @@ add_refusal-requires g c =
     let m' = model st c.open.new.self in
     let full : length c.args.cycle.now ≡ 64 = search rules in
     told_front g.M.Measure c.args.total_depth (st.meaning c.args.store) name m m' c.new-solver.ensures.standing _ c.open.new.cycle c.in-Err.why (rw full at c.in-Err.ensures.answered)
-    (length (names_of c.args.names.now)) c.requires.named c.open.auto.cycle
+    (length (names_of c.args.names.now)) c.requires c.open.auto.cycle
 
 pub returns : goal.returns
 returns g c =
