@@ -9,7 +9,7 @@ use Rattle.sheet_text.specs.Reading.{Known, put_tie, add_tie, first_tie, after, 
 use Rattle.sheet_text.specs.Tying.{tied_in, tie_of, store_of, tie_answer}
 use Rattle.sheet_text.specs.declared.faults.Code.TheVariants.{Name}
 use Rattle.sheet_text.specs.declared.ties.Tie.{Tie}
-use Rattle.sheet_text.proofs.Determined.{err_ok}
+use Rattle.sheet_text.proofs.Determined.{else_ok}
 use Rattle.sheet_text.proofs.Listed.{tied_none}
 use Rattle.sheet_text.proofs.Places.{found}
 
@@ -30,13 +30,8 @@ store_says n room ts a b from to new few =
 -- what the store lets through
 pub let_through : (count room a b : ℕ) → tie_answer count room a b ≡ Ok tt → (a ≡ b → ⊥) × (count ≡ room → ⊥)
 let_through count room a b e =
-    elim (cases_Bool (eqb a b)) [
-      | inl t ↦ absurd (err_ok (sym (cond-true (eqb a b) (Err SameMarker) (cond (eqb count room) (Err StoreFull) (Ok tt)) t) ∙ e))
-      | inr t ↦ elim (cases_Bool (eqb count room)) [
-        | inl u ↦ absurd (err_ok (sym (cond-true (eqb count room) (Err StoreFull) (Ok tt) u) ∙ sym (cond-false (eqb a b) (Err SameMarker) (cond (eqb count room) (Err StoreFull) (Ok tt)) t) ∙ e))
-        | inr u ↦ (eqb-false a b t, eqb-false count room u)
-      ]
-    ]
+    let (unlike, rest) = else_ok (eqb a b) (cond (eqb count room) (Err StoreFull) (Ok tt)) SameMarker e in
+    (eqb-false a b unlike, eqb-false count room (else_ok (eqb count room) (Ok tt) StoreFull rest).0)
 
 -- a tie between known names of a pair that is not tied
 pub added : (k : Known) (first : ℕ) (from to : List ℕ) (t : Tie) → place_of k.names from ≡ Some t.start → place_of k.names to ≡ Some t.end → tied_in k.ties t.start t.end ≡ false → length k.ties ≤ k.room
