@@ -1,5 +1,5 @@
 -- 64 markers have fewer than 4,096 ordered pairs, so that a text never fills a list of 4,096. Assumes nothing.
-use Rattle.std.proofs.Common.{◌≡◌, ℕ, ◌+◌, ◌-◌, ◌*◌, ◌<◌, ◌≤◌, Bool, true, false, cond, ◌&&◌, eqb, ltb, List, ◌∷◌, ◌++◌, map, length, get_or, ℤ, is_some, Some, None, Ok, Err, decimal, Option, Result, sym, refl, ap, ◌∙◌, subst, inl, inr, arith}
+use Rattle.std.proofs.Common.{◌≡◌, ℕ, ◌+◌, ◌-◌, ◌*◌, ◌<◌, ◌≤◌, Bool, true, false, cond, ◌&&◌, eqb, ltb, List, ◌++◌, map, length, get_or, ℤ, is_some, Some, None, Ok, Err, decimal, Option, Result, sym, refl, ap, ◌∙◌, subst, inl, inr, arith}
 use lib.ListN.{length-map}
 use Rattle.std.specs.List.{list_any}
 use Rattle.std.specs.Str.{bytes_eq}
@@ -16,7 +16,7 @@ use Rattle.line_text.specs.Lines.Said.{total_depth, marker, tie, trailer}
 use Rattle.sheet_text.specs.Calls.{Checked, Roomy}
 use Rattle.sheet_text.specs.Format.{Tied}
 use Rattle.sheet_text.specs.Naming.{place_of}
-use Rattle.sheet_text.specs.Reading.{Known, read_depth, add_name, read_marker, put_tie, add_tie, first_tie, after, finish, read_line, Outcome, Answer}
+use Rattle.sheet_text.specs.Reading.{Known, read_depth, read_marker, put_tie, add_tie, first_tie, after, read_line, Outcome, Answer}
 use Rattle.sheet_text.specs.Reading.Outcome.{ended, good, faulty}
 use Rattle.sheet_text.specs.Tying.{no_tie, tied_in, store_of, tie_answer}
 use Rattle.sheet_text.specs.declared.faults.Code.{Code}

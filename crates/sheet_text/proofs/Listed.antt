@@ -1,7 +1,7 @@
 -- Whether a tie of a pair is in a list, and which. Assumes nothing.
-use Rattle.std.proofs.Common.{◌≡◌, ℕ, zero, suc, ◌<◌, Bool, true, false, ◌||◌, eqb, List, [], ◌∷◌, length, get_or, Some, None, sym, refl, ap, ◌∙◌, inl, inr, arith}
+use Rattle.std.proofs.Common.{◌≡◌, ℕ, suc, ◌<◌, true, false, ◌||◌, eqb, List, [], ◌∷◌, length, get_or, Some, None, sym, refl, ap, ◌∙◌, inl, inr, arith}
 use Rattle.std.proofs.lemmas.List.Folds.{list_any_at}
-use Rattle.std.proofs.lemmas.Bool.{cases_Bool, cond-true, cond-false, eq-eqb, eqb-true, and_from, and_parts}
+use Rattle.std.proofs.lemmas.Bool.{cases_Bool, cond-true, cond-false, eq-eqb, eqb-true, and_from, and_parts, or_parts}
 use Rattle.sheet_text.specs.Tying.{no_tie, is_of, tied_in, amount_of, tie_of}
 use Rattle.sheet_text.specs.declared.ties.Tie.{Tie}
 
@@ -29,7 +29,5 @@ tied_some (t ∷ ts) a b e =
 pub tied_none : (ts : List Tie) (a b : ℕ) → tied_in ts a b ≡ false → tie_of ts a b ≡ None
 tied_none [] a b e = refl
 tied_none (t ∷ ts) a b e =
-    elim (cases_Bool (is_of a b t)) [
-      | inl h ↦ absurd (true_false (ap (λ x. x || tied_in ts a b) (sym h) ∙ e))
-      | inr h ↦ cond-false (is_of a b t) (Some (amount_of t)) (tie_of ts a b) h ∙ tied_none ts a b (ap (λ x. x || tied_in ts a b) (sym h) ∙ e)
-    ]
+    let (other, rest) = or_parts (is_of a b t) (tied_in ts a b) e in
+    cond-false (is_of a b t) (Some (amount_of t)) (tie_of ts a b) other ∙ tied_none ts a b rest

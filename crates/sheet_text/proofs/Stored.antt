@@ -1,6 +1,7 @@
 -- What a store of the ties so far answers to one more. Assumes nothing.
-use Rattle.std.proofs.Common.{◌≡◌, ℕ, ◌-◌, ◌<◌, ◌≤◌, false, cond, ◌&&◌, eqb, ltb, List, length, is_some, Some, Ok, Err, Result, sym, ap, ◌∙◌, inl, inr, arith}
-use Rattle.std.proofs.lemmas.Bool.{cases_Bool, cond-true, cond-false, lt-ltb, eqb-false, eqb-true, eq-eqb, ne_eqb, and_from}
+use Rattle.std.proofs.Common.{◌≡◌, ℕ, ◌-◌, ◌<◌, ◌≤◌, false, cond, ◌&&◌, eqb, ltb, List, length, is_some, Some, Ok, Err, Result, sym, ap, ◌∙◌, arith}
+use Rattle.std.proofs.lemmas.Bool.Decides.{nat_tests}
+use Rattle.std.proofs.lemmas.Bool.{cond-true, cond-false, lt-ltb, eqb-false, and_from}
 use Rattle.store.specs.Meaning.{put_answer}
 use Rattle.store.specs.declared.Refusal.{Refusal}
 use Rattle.store.specs.declared.Refusal.TheVariants.{UnknownMarker, SameMarker, StoreFull}
@@ -14,11 +15,7 @@ use Rattle.sheet_text.proofs.Listed.{tied_none}
 use Rattle.sheet_text.proofs.Places.{found}
 
 same_tests : (count room : ℕ) → count ≤ room → eqb (room - count) 0 ≡ eqb count room
-same_tests count room few =
-    elim (cases_Bool (eqb count room)) [
-      | inl e ↦ eq-eqb (room - count) 0 (omega (arith, eqb-true count room e)) ∙ sym e
-      | inr e ↦ ne_eqb (room - count) 0 (λ z. eqb-false count room e (omega arith)) ∙ sym e
-    ]
+same_tests count room few = grind (arith, nat_tests)
 
 pub store_says : (n room : ℕ) (ts : List Tie) (a b : ℕ) → a < n → b < n → tied_in ts a b ≡ false → length ts ≤ room → put_answer (store_of n room ts) a b ≡ tie_answer (length ts) room a b
 store_says n room ts a b from to new few =

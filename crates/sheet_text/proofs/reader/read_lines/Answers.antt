@@ -1,4 +1,4 @@
-use Rattle.std.proofs.Common.{◌≡◌, Err, rules, ◌∷◌, length, refl, ap, subst, arith, length-append}
+use Rattle.std.proofs.Common.{◌≡◌, Err, rules, refl, subst, arith}
 use Rattle.sheet_text.specs.Reading.{known, Faulty, Outcome}
 use Rattle.std.proofs.lemmas.Result.{err_from_is_err_and}
 use Rattle.sheet_text.specs.Reading.Outcome.{ended, good, faulty}
