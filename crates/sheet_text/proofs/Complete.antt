@@ -6,11 +6,13 @@ use Rattle.std.proofs.lemmas.List.{get_or_at, get_or_append_left}
 use Rattle.std.proofs.lemmas.Bool.{cases_Bool, cond-true, cond-false, ne_eqb, lt-ltb, le-ltb, and_from}
 use Rattle.store.specs.declared.Refusal.TheVariants.{SameMarker, StoreFull}
 use Rattle.line_text.specs.Spelling.{Bounded, Name}
+use Rattle.line_text.specs.Lines.{spell, Valid, said}
+use Rattle.line_text.specs.declared.lines.Line.{Line}
 use Rattle.line_text.specs.declared.lines.Line.TheVariants.{TotalDepth as DepthLine}
 use Rattle.line_text.proofs.Inked.{unended}
 use Rattle.sheet_text.specs.Format.{Well, lines, depth_text, marker_text, tie_text, trailer_text, head_lines, tie_lines, document, Named, Tied, Proper}
 use Rattle.sheet_text.specs.Naming.{place_of}
-use Rattle.sheet_text.specs.Reading.{Known, start, add_name, put_tie, add_tie, finish, after, read_trailer, Outcome}
+use Rattle.sheet_text.specs.Reading.{Known, start, add_name, put_tie, add_tie, finish, first_tie, after, read_trailer, read_line, Outcome}
 use Rattle.sheet_text.specs.Reading.Outcome.{ended, good}
 use Rattle.sheet_text.specs.Tying.{no_tie, tied_in, tie_answer}
 use Rattle.sheet_text.specs.declared.faults.Code.TheVariants.{Count, Trailer}
@@ -21,7 +23,7 @@ use Rattle.sheet_text.proofs.Fronts.{lines_append}
 use Rattle.sheet_text.proofs.Listed.{tied_some}
 use Rattle.sheet_text.proofs.Places.{found, missing}
 use Rattle.sheet_text.proofs.Stored.{added}
-use Rattle.sheet_text.proofs.Written.{marker_line, tie_line, trailer_line, valid_tie, valid_trailer, trailer_unended}
+use Rattle.sheet_text.proofs.Written.{marker_line, tie_line, trailer_line, valid_tie, valid_trailer}
 
 -- ---- looking up
 place_at : (ns : List (List ℕ)) (a : ℕ) (o : Option ℕ) → Named ns → a < length ns → place_of ns (get_or ns a []) ≡ o → o ≡ Some a
@@ -119,6 +121,18 @@ finished k first =
 
 -- ---- all lines of a well's text
 
+-- one line, after which m is known
+one_line : (r : Result Known Fault) (k m : Known) (place : ℕ) (l : Line) (bs rest : List ℕ) → Valid l → read_line k place (said l) ≡ Ok m → bs ≡ spell l ++ 10 ∷ rest → Outcome r m (place + (length (spell l) + 1)) rest → Outcome r k place bs
+one_line r k m place l bs rest v e cut o = good m (spell l) rest (unended l v) cut (l, v, refl, e) o
+
+-- one tie line, where the first may stand at `first`
+one_tie : (r : Result Known Fault) (k : Known) (place first : ℕ) (t : Tie) (more : List Tie) (bs rest : List ℕ) → Named k.names → Tied (length k.names) k.room (k.ties ++ t ∷ more) → first_tie k.phase k place ≡ Ok first
+    → bs ≡ tie_text k.names t ++ 10 ∷ rest → Outcome r (at_ties k.room k.depth k.names first (k.ties ++ t ∷ [])) (place + (length (tie_text k.names t) + 1)) rest → Outcome r k place bs
+one_tie r k place first t more bs rest n s is cut o =
+    let ok = tie_good k first t more n s in
+    one_line r k (at_ties k.room k.depth k.names first (k.ties ++ t ∷ [])) place (tie_line k.names t) bs rest (valid_tie k.names t n ok.0 ok.1 ok.2)
+    (ap (λ r. after r (λ first. add_tie k first (place_of k.names (get_or k.names t.start [])) (place_of k.names (get_or k.names t.end [])) t.amount)) is ∙ tie_added k first t more n s) cut o
+
 module _ (r : Result Known Fault) (room : ℕ) (h : ℤ) where
   markers : (ns ms all : List (List ℕ)) (place end : ℕ) (rest : List ℕ) → Named all → all ≡ ms ++ ns → end ≡ place + length (lines (map marker_text ns))
       → Outcome r (at_markers room h all) end rest → Outcome r (at_markers room h ms) place (lines (map marker_text ns) ++ rest)
@@ -127,10 +141,8 @@ module _ (r : Result Known Fault) (room : ℕ) (h : ℤ) where
       subst (λ p. Outcome r (at_markers room h ms) p rest) same (subst (λ xs. Outcome r (at_markers room h xs) end rest) (is ∙ append-nil ms) o)
   markers (name ∷ ns) ms all place end rest n is long o =
       let named : Named (ms ++ name ∷ ns) = subst Named is n in
-      let valid = name_good room h ms ns name named in
-      good (at_markers room h (ms ++ name ∷ [])) (marker_text name) (lines (map marker_text ns) ++ rest) (unended (marker_line name) valid)
+      one_line r _ (at_markers room h (ms ++ name ∷ [])) place (marker_line name) _ (lines (map marker_text ns) ++ rest) (name_good room h ms ns name named) (name_added room h ms ns name named)
       (append_assoc (marker_text name) (10 ∷ lines (map marker_text ns)) rest)
-      (marker_line name, valid, refl, name_added room h ms ns name named)
       (markers ns (ms ++ name ∷ []) all (place + (length (marker_text name) + 1)) end rest n (is ∙ sym (append_assoc ms (name ∷ []) ns)) (omega (arith, length-append (marker_text name) (10 ∷ lines (map marker_text ns)))) o)
 
   module _ (ns : List (List ℕ)) (n : Named ns) where
@@ -140,13 +152,8 @@ module _ (r : Result Known Fault) (room : ℕ) (h : ℤ) where
         let same : end ≡ place = omega arith in
         subst (λ p. Outcome r (at_ties room h ns first us) p rest) same (subst (λ xs. Outcome r (at_ties room h ns first xs) end rest) (is ∙ append-nil us) o)
     ties first (t ∷ ts) us all place end rest s is long o =
-        let k = at_ties room h ns first us in
-        let tied : Tied (length ns) room (us ++ t ∷ ts) = subst (Tied (length ns) room) is s in
-        let ok = tie_good k first t ts n tied in
-        let valid = valid_tie ns t n ok.0 ok.1 ok.2 in
-        good (at_ties room h ns first (us ++ t ∷ [])) (tie_text ns t) (lines (tie_lines ns ts) ++ rest) (unended (tie_line ns t) valid)
+        one_tie r (at_ties room h ns first us) place first t ts _ (lines (tie_lines ns ts) ++ rest) n (subst (Tied (length ns) room) is s) refl
         (append_assoc (tie_text ns t) (10 ∷ lines (tie_lines ns ts)) rest)
-        (tie_line ns t, valid, refl, tie_added k first t ts n tied)
         (ties first ts (us ++ t ∷ []) all (place + (length (tie_text ns t) + 1)) end rest s (is ∙ sym (append_assoc us (t ∷ []) ts)) (omega (arith, length-append (tie_text ns t) (10 ∷ lines (tie_lines ns ts)))) o)
 
 module _ (room : ℕ) (w : Well) (ok : Proper room w) (small : length (lines (head_lines w.depth w.names)) < 2 ^ 64) (few : length w.ties < 2 ^ 64) where
@@ -171,8 +178,7 @@ module _ (room : ℕ) (w : Well) (ok : Proper room w) (small : length (lines (he
   -- the trailer, after a line at which k was known
   trailing : (k : Known) (at : ℕ) → read_trailer k at (decimal place) (decimal (length w.ties)) ≡ Ok (at_end room w) → Outcome r k at (last ++ 10 ∷ [])
   trailing k at e =
-      good (at_end room w) last [] (trailer_unended place (length w.ties) small few) refl
-      (trailer_line place (length w.ties), valid_trailer place (length w.ties) small few, refl, e) (ended (λ i l. absurd (omega arith)) refl)
+      one_line r k (at_end room w) at (trailer_line place (length w.ties)) _ [] (valid_trailer place (length w.ties) small few) e refl (ended (λ i l. absurd (omega arith)) refl)
 
   body : (ts : List Tie) → ts ≡ w.ties → Outcome r (at_markers room h ns) place (lines (tie_lines ns ts) ++ (last ++ 10 ∷ []))
   body [] e =
@@ -182,26 +188,17 @@ module _ (room : ℕ) (w : Well) (ok : Proper room w) (small : length (lines (he
       ∙ ap (finish (at_markers room h ns) place (decimal place)) (sym none) ∙ finished (at_markers room h ns) place
       ∙ (λ i. Ok (record { phase = AtEnd; depth = h; names = ns; ties = e i; room = room })))
   body (t ∷ ts) e =
-      let k = at_markers room h ns in
-      let tied : Tied (length ns) room (t ∷ ts) = subst (Tied (length ns) room) (sym e) ok.ties in
-      let fine = tie_good k place t ts ok.names tied in
-      let valid = valid_tie ns t ok.names fine.0 fine.1 fine.2 in
       let all = at_ties room h ns place w.ties in
       let next = place + (length (tie_text ns t) + 1) in
-      good (at_ties room h ns place (t ∷ [])) (tie_text ns t) (lines (tie_lines ns ts) ++ (last ++ 10 ∷ [])) (unended (tie_line ns t) valid)
-      (append_assoc (tie_text ns t) (10 ∷ lines (tie_lines ns ts)) (last ++ 10 ∷ [])) (
-        tie_line ns t,
-        valid,
-        refl,
-        ap (λ r. after r (λ first. add_tie k first (place_of ns (get_or ns t.start [])) (place_of ns (get_or ns t.end [])) t.amount)) (cond-false (ltb (length ns) 2) (Err Count) (Ok place) two) ∙ tie_added k place t ts ok.names tied,
-      )
+      one_tie r (at_markers room h ns) place place t ts _ (lines (tie_lines ns ts) ++ (last ++ 10 ∷ [])) ok.names (subst (Tied (length ns) room) (sym e) ok.ties) (cond-false (ltb (length ns) 2) (Err Count) (Ok place) two)
+      (append_assoc (tie_text ns t) (10 ∷ lines (tie_lines ns ts)) (last ++ 10 ∷ []))
       (ties r room h ns ok.names place ts (t ∷ []) w.ties next (next + length (lines (tie_lines ns ts))) (last ++ 10 ∷ []) ok.ties (sym e) refl
       (trailing all (next + length (lines (tie_lines ns ts))) (finished all place)))
 
   pub complete : Outcome r (start room) 0 (document w)
   complete =
       let rest = tie_lines ns w.ties ++ last ∷ [] in
-      good (at_markers room h []) (depth_text h) (lines (map marker_text ns ++ rest)) (unended (DepthLine h) ok.depth) refl (DepthLine h, ok.depth, refl, refl)
+      one_line r (start room) (at_markers room h []) 0 (DepthLine h) _ (lines (map marker_text ns ++ rest)) ok.depth refl refl
       (subst (Outcome r (at_markers room h []) (0 + (length (depth_text h) + 1))) (sym (lines_append (map marker_text ns) rest))
       (markers r room h ns [] ns (0 + (length (depth_text h) + 1)) place (lines rest) ok.names refl (omega (arith, length-append (depth_text h) (10 ∷ lines (map marker_text ns))))
       (subst (Outcome r (at_markers room h ns) place) (sym (lines_append (tie_lines ns w.ties) (last ∷ []))) (body w.ties refl))))

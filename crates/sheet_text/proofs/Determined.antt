@@ -1,5 +1,5 @@
 -- Of a text one thing comes. Assumes nothing.
-use Rattle.std.proofs.Common.{◌≡◌, ℕ, ◌+◌, List, length, Ok, Err, Result, sym, ap, ◌∙◌, subst, inl, inr}
+use Rattle.std.proofs.Common.{◌≡◌, ℕ, ◌+◌, Bool, true, false, cond, List, length, Ok, Err, Result, sym, refl, ap, ◌∙◌, subst, inl, inr}
 use Rattle.line_text.proofs.Alike.{unambiguous}
 use Rattle.line_text.proofs.Cuts.{cut_same, uncut}
 use Rattle.sheet_text.specs.Reading.{Known, read_line, Good, Faulty, Outcome}
@@ -15,6 +15,15 @@ ok_same e = cc
 
 pub err_same : {X E : Type 0} {x y : E} → ◌≡◌ {A = Result X E} (Err x) (Err y) → x ≡ y
 err_same e = cc
+
+-- where a choice between an answer and a refusal answers
+pub if_ok : {X E : Type 0} (b : Bool) (r : Result X E) (c : E) {x : X} → cond b r (Err c) ≡ Ok x → (b ≡ true) × (r ≡ Ok x)
+if_ok true r c e = (refl, e)
+if_ok false r c e = absurd (err_ok e)
+
+pub else_ok : {X E : Type 0} (b : Bool) (r : Result X E) (c : E) {x : X} → cond b (Err c) r ≡ Ok x → (b ≡ false) × (r ≡ Ok x)
+else_ok true r c e = absurd (err_ok e)
+else_ok false r c e = (refl, e)
 
 module _ (k : Known) (place : ℕ) (bs : List ℕ) where
   good_same : (m n : Known) → Good k place bs m → Good k place bs n → m ≡ n

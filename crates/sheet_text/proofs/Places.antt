@@ -9,6 +9,7 @@ use Rattle.std.proofs.lemmas.Bool.{cases_Bool, cond-true}
 use Rattle.line_text.specs.Spelling.{Name}
 use Rattle.sheet_text.specs.Format.{Named, Tied}
 use Rattle.std.specs.List.{position_or_len}
+use Rattle.std.proofs.lemmas.List.Elements.{All-from_get_or, All-get_or, All-push}
 use Rattle.std.proofs.lemmas.List.Quantifiers.{position-Some}
 use Rattle.std.proofs.lemmas.List.Sums.{fails_before_first}
 use Rattle.sheet_text.specs.Naming.{texts, place_of}
@@ -46,12 +47,7 @@ before_or_last xs i l = ⊎_elim (λ b. inl b) (λ b. inr (omega arith)) (order 
 
 module _ {X : Type 0} (xs : List X) (x d : X) where
   pub each_push : (P : X → Type 0) → ((i : ℕ) → i < length xs → P (get_or xs i d)) → P x → (i : ℕ) → i < length (xs ++ x ∷ []) → P (get_or (xs ++ x ∷ []) i d)
-  each_push P all here i l =
-      let long = length_push xs x in
-      elim (before_or_last xs i (omega arith)) [
-        | inl b ↦ subst P (sym (get_or_append_left xs (x ∷ []) d i b)) (all i b)
-        | inr e ↦ subst P (sym (get_or_push xs x d i e)) here
-      ]
+  each_push P all here i l = All-get_or P (xs ++ x ∷ []) i d l (All-push P xs x (All-from_get_or P xs d all) here)
 
   pub apart_push : (R : X → X → Type 0) → ((i j : ℕ) → i < length xs → j < length xs → R (get_or xs i d) (get_or xs j d) → i ≡ j)
       → ((i : ℕ) → i < length xs → R (get_or xs i d) x → ⊥) → ((i : ℕ) → i < length xs → R x (get_or xs i d) → ⊥)

@@ -17,6 +17,9 @@ pub does_bytes : (k : Known) (place : ℕ) (bs : List ℕ) (r : Result (Unit {0}
 does_bytes k place bs (Ok u) t l v s d = (l, v, s, d)
 does_bytes k place bs (Err e) t l v s d = inr (l, v, s, d)
 
+pub cut_length : (rest line after : List ℕ) → rest ≡ line ++ 10 ∷ after → length rest ≡ length line + 1 + length after
+cut_length rest line after e = omega (arith, ap length e, length-append line (10 ∷ after))
+
 no_names : Named []
 no_names = record { few = omega arith; good = λ i l. absurd (omega arith); apart = λ i j l m. absurd (omega arith) }
 

@@ -1,10 +1,10 @@
 -- A good line adds itself to what is said, and keeps it fair. Assumes nothing.
-use Rattle.std.proofs.Common.{◌≡◌, ℕ, ◌<◌, ◌≤◌, false, ◌&&◌, ltb, List, [], ◌∷◌, ◌++◌, length, ℤ, Some, None, Ok, Err, decimal, Option, Result, sym, refl, ap, ◌∙◌, subst, inl, inr, append_assoc, append-nil, arith}
+use Rattle.std.proofs.Common.{◌≡◌, ℕ, ◌<◌, ◌≤◌, false, ◌&&◌, ltb, List, [], ◌∷◌, ◌++◌, length, ℤ, Some, None, Ok, Err, decimal, Option, Result, sym, refl, ap, ◌∙◌, subst, append_assoc, append-nil, arith}
 use mathlib.Core.List.{map-append}
 use Rattle.std.specs.Str.{bytes_eq}
 use Rattle.std.proofs.lemmas.Slice.Eq.{bytes_eq-Decides}
 use Rattle.std.proofs.lemmas.List.{length_push}
-use Rattle.std.proofs.lemmas.Bool.{cases_Bool, cond-true, cond-false, ltb-true, and_parts}
+use Rattle.std.proofs.lemmas.Bool.{ltb-true, ltb-false, and_parts}
 use Rattle.store.specs.declared.Refusal.{Refusal}
 use Rattle.store.specs.Meaning.{put_answer}
 use Rattle.line_text.specs.Lines.{spell, spell_amount, Valid, said}
@@ -17,7 +17,7 @@ use Rattle.sheet_text.specs.Format.{lines, depth_text, marker_text, tie_text, he
 use Rattle.sheet_text.specs.Naming.{place_of}
 use Rattle.sheet_text.specs.Tying.{tied_in, store_of, tie_answer}
 use Rattle.sheet_text.specs.Reading.{Known, read_depth, add_name, read_marker, put_tie, add_tie, first_tie, after, read_tie, finish, read_trailer, read_line}
-use Rattle.sheet_text.proofs.Determined.{err_ok, ok_same}
+use Rattle.sheet_text.proofs.Determined.{err_ok, ok_same, if_ok, else_ok}
 use Rattle.sheet_text.proofs.Fronts.{tied_lines, front_lines, front, Staged, Fair}
 use Rattle.sheet_text.specs.declared.faults.Code.TheVariants.{Name as NameCode, Count, Trailer}
 use Rattle.sheet_text.specs.declared.state.Phase.{Phase}
@@ -57,26 +57,19 @@ no_ties n room ts e =
     }
 
 name_step : (k m : Known) (name : List ℕ) (o : Option ℕ) → place_of k.names name ≡ o → Fair k → Staged AtMarkers k → Name name → add_name k name o ≡ Ok m → Stepped (front_lines AtMarkers k) k (marker_text name) m
-name_step k m name (Some j) p f s v e =
-    elim (cases_Bool (ltb (length k.names) 64)) [
-      | inl t ↦ absurd (err_ok (sym (cond-true (ltb (length k.names) 64) (Err NameCode) (Err Count) t) ∙ e))
-      | inr t ↦ absurd (err_ok (sym (cond-false (ltb (length k.names) 64) (Err NameCode) (Err Count) t) ∙ e))
-    ]
+name_step k m name (Some j) p f s v e = absurd (err_ok (if_ok (ltb (length k.names) 64) (Err NameCode) Count e).1)
 name_step k m name None p f s v e =
-    elim (cases_Bool (ltb (length k.names) 64)) [
-      | inl t ↦
-          subst (Stepped (front_lines AtMarkers k) k (marker_text name)) (ok_same (sym (cond-true (ltb (length k.names) 64) (Ok (with_name k name)) (Err Count) t) ∙ e)) (
-            record {
-              depth = f.depth;
-              names = named_push k.names name f.names (ltb-true (length k.names) 64 t) v (missing k.names name p);
-              ties = no_ties (length (k.names ++ name ∷ [])) k.room k.ties s;
-              staged = s;
-            },
-            head_push k.depth k.names name,
-            refl,
-          )
-      | inr t ↦ absurd (err_ok (sym (cond-false (ltb (length k.names) 64) (Ok (with_name k name)) (Err Count) t) ∙ e))
-    ]
+    let (few, is) = if_ok (ltb (length k.names) 64) (Ok (with_name k name)) Count e in
+    subst (Stepped (front_lines AtMarkers k) k (marker_text name)) (ok_same is) (
+      record {
+        depth = f.depth;
+        names = named_push k.names name f.names (ltb-true (length k.names) 64 few) v (missing k.names name p);
+        ties = no_ties (length (k.names ++ name ∷ [])) k.room k.ties s;
+        staged = s;
+      },
+      head_push k.depth k.names name,
+      refl,
+    )
 
 marker_step : (ph : Phase) (k m : Known) (name : List ℕ) → Fair k → Staged ph k → Name name → read_marker ph k name ≡ Ok m → Stepped (front_lines ph k) k (marker_text name) m
 marker_step AtDepth k m name f s v e = absurd (err_ok e)
@@ -113,47 +106,34 @@ module _ (k m : Known) (first : ℕ) (two : 2 ≤ length k.names) (at : first �
       let from = found k.names s a p in
       let to = found k.names u b q in
       let r = put_answer (store_of (length k.names) k.room k.ties) a b in
-      elim (cases_Bool (tied_in k.ties a b)) [
-        | inl w ↦ absurd (err_ok (sym (cond-true (tied_in k.ties a b) (Err NameCode) (put_tie k first t r) w) ∙ e))
-        | inr w ↦
-            subst (λ line. Stepped (tied_lines k) k line m) (λ i. 84 ∷ 32 ∷ (from.1 i ++ 32 ∷ (to.1 i ++ 32 ∷ spell_amount amount)))
-            (put_step t r (sym (store_says (length k.names) k.room k.ties a b from.0 to.0 w f.ties.few)) from.0 to.0 v w (sym (cond-false (tied_in k.ties a b) (Err NameCode) (put_tie k first t r) w) ∙ e))
-      ]
+      let (new, is) = else_ok (tied_in k.ties a b) (put_tie k first t r) NameCode e in
+      subst (λ line. Stepped (tied_lines k) k line m) (λ i. 84 ∷ 32 ∷ (from.1 i ++ 32 ∷ (to.1 i ++ 32 ∷ spell_amount amount)))
+      (put_step t r (sym (store_says (length k.names) k.room k.ties a b from.0 to.0 new f.ties.few)) from.0 to.0 v new is)
 
   finish_step : (p c : List ℕ) → finish k first p c ≡ Ok m → Stepped (tied_lines k) k (90 ∷ 32 ∷ (p ++ 32 ∷ c)) m
   finish_step p c e =
       let ended : Known = record { phase = AtEnd; depth = k.depth; names = k.names; ties = k.ties; room = k.room } in
-      let test = bytes_eq p (decimal first) && bytes_eq c (decimal (length k.ties)) in
-      elim (cases_Bool test) [
-        | inl t ↦
-            let both = and_parts (bytes_eq p (decimal first)) (bytes_eq c (decimal (length k.ties))) t in
-            let ps = (bytes_eq-Decides p (decimal first)).0 both.0 ∙ ap decimal at in
-            let cs = (bytes_eq-Decides c (decimal (length k.ties))).0 both.1 in
-            subst (Stepped (tied_lines k) k (90 ∷ 32 ∷ (p ++ 32 ∷ c))) (ok_same (sym (cond-true test (Ok ended) (Err Trailer) t) ∙ e)) (
-              record { depth = f.depth; names = f.names; ties = f.ties; staged = two },
-              (λ i. head_lines k.depth k.names ++ (tie_lines k.names k.ties ++ (90 ∷ 32 ∷ (sym ps i ++ 32 ∷ sym cs i)) ∷ []))
-                  ∙ sym (append_assoc (head_lines k.depth k.names) (tie_lines k.names k.ties) ((90 ∷ 32 ∷ (p ++ 32 ∷ c)) ∷ [])),
-              refl,
-            )
-        | inr t ↦ absurd (err_ok (sym (cond-false test (Ok ended) (Err Trailer) t) ∙ e))
-      ]
+      let (test, is) = if_ok (bytes_eq p (decimal first) && bytes_eq c (decimal (length k.ties))) (Ok ended) Trailer e in
+      let both = and_parts (bytes_eq p (decimal first)) (bytes_eq c (decimal (length k.ties))) test in
+      let ps = (bytes_eq-Decides p (decimal first)).0 both.0 ∙ ap decimal at in
+      let cs = (bytes_eq-Decides c (decimal (length k.ties))).0 both.1 in
+      subst (Stepped (tied_lines k) k (90 ∷ 32 ∷ (p ++ 32 ∷ c))) (ok_same is) (
+        record { depth = f.depth; names = f.names; ties = f.ties; staged = two },
+        (λ i. head_lines k.depth k.names ++ (tie_lines k.names k.ties ++ (90 ∷ 32 ∷ (sym ps i ++ 32 ∷ sym cs i)) ∷ []))
+            ∙ sym (append_assoc (head_lines k.depth k.names) (tie_lines k.names k.ties) ((90 ∷ 32 ∷ (p ++ 32 ∷ c)) ∷ [])),
+        refl,
+      )
 
 -- with no ties yet, the ties say nothing
 untied_lines : (k : Known) → Staged AtMarkers k → tied_lines k ≡ front_lines AtMarkers k
 untied_lines k s = ap (λ ts. head_lines k.depth k.names ++ tie_lines k.names ts) s ∙ append-nil (head_lines k.depth k.names)
 
-two_from : (n : ℕ) → ltb n 2 ≡ false → 2 ≤ n
-two_from n e = grind (arith, e)
-
 -- a tie line or the trailer comes after two markers, and the first tie line stands behind the markers
 placed : (ph : Phase) (k : Known) (first : ℕ) → Staged ph k → first_tie ph k (length (lines (front_lines ph k))) ≡ Ok first → (2 ≤ length k.names) × (first ≡ length (lines (head_lines k.depth k.names))) × (tied_lines k ≡ front_lines ph k)
 placed AtDepth k first g e = absurd (err_ok e)
 placed AtMarkers k first g e =
-    let place = length (lines (front_lines AtMarkers k)) in
-    elim (cases_Bool (ltb (length k.names) 2)) [
-      | inl t ↦ absurd (err_ok (sym (cond-true (ltb (length k.names) 2) (Err Count) (Ok place) t) ∙ e))
-      | inr t ↦ (two_from (length k.names) t, ok_same (sym e ∙ cond-false (ltb (length k.names) 2) (Err Count) (Ok place) t), untied_lines k g)
-    ]
+    let (two, is) = else_ok (ltb (length k.names) 2) (Ok (length (lines (front_lines AtMarkers k)))) Count e in
+    (ltb-false (length k.names) 2 two, ok_same (sym is), untied_lines k g)
 placed (AtTies at) k first g e = (g.0, ok_same (sym e) ∙ g.2, refl)
 placed AtEnd k first g e = absurd (err_ok e)
 

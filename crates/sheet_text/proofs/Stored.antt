@@ -1,6 +1,7 @@
 -- What a store of the ties so far answers to one more. Assumes nothing.
-use Rattle.std.proofs.Common.{◌≡◌, ℕ, ◌-◌, ◌<◌, ◌≤◌, false, cond, ◌&&◌, eqb, ltb, List, length, is_some, Some, Ok, Err, Result, sym, ap, ◌∙◌, inl, inr, arith}
-use Rattle.std.proofs.lemmas.Bool.{cases_Bool, cond-true, cond-false, lt-ltb, eqb-false, eqb-true, eq-eqb, ne_eqb, and_from}
+use Rattle.std.proofs.Common.{◌≡◌, ℕ, ◌-◌, ◌<◌, ◌≤◌, false, cond, ◌&&◌, eqb, ltb, List, length, is_some, Some, Ok, Err, Result, sym, ap, ◌∙◌, arith}
+use Rattle.std.proofs.lemmas.Bool.Decides.{nat_tests}
+use Rattle.std.proofs.lemmas.Bool.{cond-true, cond-false, lt-ltb, eqb-false, and_from}
 use Rattle.store.specs.Meaning.{put_answer}
 use Rattle.store.specs.declared.Refusal.{Refusal}
 use Rattle.store.specs.declared.Refusal.TheVariants.{UnknownMarker, SameMarker, StoreFull}
@@ -9,16 +10,12 @@ use Rattle.sheet_text.specs.Reading.{Known, put_tie, add_tie, first_tie, after, 
 use Rattle.sheet_text.specs.Tying.{tied_in, tie_of, store_of, tie_answer}
 use Rattle.sheet_text.specs.declared.faults.Code.TheVariants.{Name}
 use Rattle.sheet_text.specs.declared.ties.Tie.{Tie}
-use Rattle.sheet_text.proofs.Determined.{err_ok}
+use Rattle.sheet_text.proofs.Determined.{else_ok}
 use Rattle.sheet_text.proofs.Listed.{tied_none}
 use Rattle.sheet_text.proofs.Places.{found}
 
 same_tests : (count room : ℕ) → count ≤ room → eqb (room - count) 0 ≡ eqb count room
-same_tests count room few =
-    elim (cases_Bool (eqb count room)) [
-      | inl e ↦ eq-eqb (room - count) 0 (omega (arith, eqb-true count room e)) ∙ sym e
-      | inr e ↦ ne_eqb (room - count) 0 (λ z. eqb-false count room e (omega arith)) ∙ sym e
-    ]
+same_tests count room few = grind (arith, nat_tests)
 
 pub store_says : (n room : ℕ) (ts : List Tie) (a b : ℕ) → a < n → b < n → tied_in ts a b ≡ false → length ts ≤ room → put_answer (store_of n room ts) a b ≡ tie_answer (length ts) room a b
 store_says n room ts a b from to new few =
@@ -30,13 +27,8 @@ store_says n room ts a b from to new few =
 -- what the store lets through
 pub let_through : (count room a b : ℕ) → tie_answer count room a b ≡ Ok tt → (a ≡ b → ⊥) × (count ≡ room → ⊥)
 let_through count room a b e =
-    elim (cases_Bool (eqb a b)) [
-      | inl t ↦ absurd (err_ok (sym (cond-true (eqb a b) (Err SameMarker) (cond (eqb count room) (Err StoreFull) (Ok tt)) t) ∙ e))
-      | inr t ↦ elim (cases_Bool (eqb count room)) [
-        | inl u ↦ absurd (err_ok (sym (cond-true (eqb count room) (Err StoreFull) (Ok tt) u) ∙ sym (cond-false (eqb a b) (Err SameMarker) (cond (eqb count room) (Err StoreFull) (Ok tt)) t) ∙ e))
-        | inr u ↦ (eqb-false a b t, eqb-false count room u)
-      ]
-    ]
+    let (unlike, rest) = else_ok (eqb a b) (cond (eqb count room) (Err StoreFull) (Ok tt)) SameMarker e in
+    (eqb-false a b unlike, eqb-false count room (else_ok (eqb count room) (Ok tt) StoreFull rest).0)
 
 -- a tie between known names of a pair that is not tied
 pub added : (k : Known) (first : ℕ) (from to : List ℕ) (t : Tie) → place_of k.names from ≡ Some t.start → place_of k.names to ≡ Some t.end → tied_in k.ties t.start t.end ≡ false → length k.ties ≤ k.room

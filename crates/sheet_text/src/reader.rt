@@ -10,6 +10,7 @@ use crate::state::State;
 use line_text::parts::cut;
 
 /// Reads the lines of a text into `state`, which is new.
+#[tactic(auto, using(crate::proofs::Progress::cut_length))]
 fn read_lines<'a>(file: &'a [u8], state: &mut State<'a>) -> Result<(), Fault>
     requires { (length file.now ≤ 65536) × (known state.old ≡ beginning state.old.ties.room) }
     ensures { Outcome (filled (known state.new) result) (beginning state.old.ties.room) 0 file.now }

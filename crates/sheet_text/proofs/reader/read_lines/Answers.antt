@@ -1,39 +1,19 @@
-use Rattle.std.proofs.Common.{◌≡◌, Err, rules, ◌∷◌, length, refl, ap, subst, arith, length-append}
+use Rattle.std.proofs.Common.{◌≡◌, Err, rules, refl, subst, arith}
 use Rattle.sheet_text.specs.Reading.{known, Faulty, Outcome}
 use Rattle.std.proofs.lemmas.Result.{err_from_is_err_and}
 use Rattle.sheet_text.specs.Reading.Outcome.{ended, good, faulty}
+use Rattle.sheet_text.proofs.Progress.{cut_length}
 use Rattle.sheet_text.proofs.reader.read_lines.Goals as goal
 
 pub loop-line-init : goal.loop-line-init
 loop-line-init c = ((λ r o. subst (λ k. Outcome r k 0 c.args.file.now) c.requires.1 o), omega arith)
 
-pub loop-line-smaller : goal.loop-line-smaller
-loop-line-smaller c =
-    let told = c.in-Some.ensures in
-    omega (arith, ap length told.1, length-append c.in-Some.line.now (10 ∷ c.in-Some.after.now))
-
 pub loop-line-preserved : goal.loop-line-preserved
 loop-line-preserved c =
     let told = c.in-Some.ensures in (
       (λ r o. c.loop-line.invariant.0 r (good (known c.take_bytes.new.self) c.in-Some.line.now c.in-Some.after.now told.0 told.1 (search rules) o)),
-      omega (arith, c.loop-line.invariant.1, ap length told.1, length-append c.in-Some.line.now (10 ∷ c.in-Some.after.now)),
+      omega (arith, cut_length _ _ _ told.1),
     )
-
--- the line and what stands before it are a part of the text
-pub overflow_cast-place : goal.overflow_cast-place
-overflow_cast-place c =
-    let told = c.in-Some.ensures in
-    omega (arith, c.requires.0, c.loop-line.invariant.1, ap length told.1, length-append c.in-Some.line.now (10 ∷ c.in-Some.after.now))
-
-pub overflow_add-place : goal.overflow_add-place
-overflow_add-place c =
-    let told = c.in-Some.ensures in
-    omega (arith, c.requires.0, c.loop-line.invariant.1, ap length told.1, length-append c.in-Some.line.now (10 ∷ c.in-Some.after.now))
-
-pub overflow_add-place-in-Some : goal.overflow_add-place-in-Some
-overflow_add-place-in-Some c =
-    let told = c.in-Some.ensures in
-    omega (arith, c.requires.0, c.loop-line.invariant.1, ap length told.1, length-append c.in-Some.line.now (10 ∷ c.in-Some.after.now))
 
 pub returns-in_err-map_err : goal.returns-in_err-map_err
 returns-in_err-map_err c =
