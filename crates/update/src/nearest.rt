@@ -27,17 +27,12 @@ pub fn nearest<M: Measure>(measure: &M, old: &DepthTable, work: &Work) -> Option
 {
     let mut best: Option<u16> = None;
     for z in 0..old.n() {
-        if !work.done[z as usize] {
-            match best {
-                None => {
-                    best = Some(z);
-                }
-                Some(y) => {
-                    if !leads(measure, old, work, y, z) {
-                        best = Some(z);
-                    }
-                }
-            }
+        if work.done[z as usize] {
+            continue;
+        }
+        match best {
+            Some(y) if leads(measure, old, work, y, z) => {}
+            _ => best = Some(z),
         }
     }
     best
