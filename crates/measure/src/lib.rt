@@ -3,6 +3,7 @@
 #![tactic(auto)]
 
 pub mod order;
+mod parts;
 mod plain;
 mod strict;
 
@@ -18,7 +19,7 @@ use std::cmp::Ordering;
 pub use strict::StrictDepth;
 
 /// A difference of depth: millimetres, and marks that tell apart amounts of the same length.
-#[derive(Clone, Copy, PartialEq, Eq, Debug)]
+#[derive(Clone, Copy, PartialEq, Eq, PartialOrd, Ord, Default, Debug)]
 pub struct Amount {
     pub mm: i64,
     pub marks: i32,

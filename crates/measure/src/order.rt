@@ -4,17 +4,13 @@ ghost use Rattle.std.specs.Prelude.{◌≡◌, Decides};
 ghost use Rattle.measure.specs.Least.{least};
 
 use crate::{Amount, Measure};
-use std::cmp::Ordering;
 
 /// Whether `a` stands for no more than `b`.
 pub fn at_most<M: Measure>(measure: &M, a: Amount, b: Amount) -> bool
     requires { (M.within 256 a) × (M.within 256 b) }
     ensures { Decides result (M.group.le (M.value a) (M.value b)) }
 {
-    match measure.compare(a, b) {
-        Ordering::Less | Ordering::Equal => true,
-        Ordering::Greater => false,
-    }
+    measure.compare(a, b).is_le()
 }
 
 /// The lesser of two amounts: the first, unless it stands for more than the second.

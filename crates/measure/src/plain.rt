@@ -1,7 +1,7 @@
 //! Amounts that are millimetres alone.
 
-ghost use Rattle.std.specs.Prelude.{◌≡◌, ◌*◌, ◌&&◌, pos, ◌+ℤ◌};
-ghost use Rattle.measure.specs.Bounds.{Exact, UpTo, up_to};
+ghost use Rattle.std.specs.Prelude.{◌≡◌, ◌*◌, ◌&&◌, pos};
+ghost use Rattle.measure.specs.Bounds.{UpTo, up_to};
 ghost use Rattle.measure.specs.Integers.{integers};
 ghost use Rattle.measure.specs.Plain.{plain_laws};
 
@@ -11,13 +11,6 @@ use std::cmp::Ordering;
 /// Millimetres alone: every amount has no marks.
 #[derive(Clone, Copy)]
 pub struct PlainDepth;
-
-// The sum of two numbers of millimetres, exact as far as 256 admitted amounts reach.
-fn add_mm(a: i64, b: i64) -> i64
-    ensures { Exact 5120000000 (a +ℤ b) result }
-{
-    a.saturating_add(b)
-}
 
 impl Measure for PlainDepth {
     ghost group = { integers };
@@ -33,28 +26,19 @@ impl Measure for PlainDepth {
     ghost laws = { plain_laws };
 
     fn zero(&self) -> Amount {
-        Amount { mm: 0, marks: 0 }
+        Amount::default()
     }
 
     fn admitted(&self, amount: Amount) -> bool {
-        -20_000_000 <= amount.mm
-            && amount.mm <= 20_000_000
-            && 0 <= amount.marks
-            && amount.marks <= 0
+        amount.has_admitted_mm() && amount.marks == 0
     }
 
     fn sum(&self, a: Amount, b: Amount) -> Amount {
-        Amount {
-            mm: add_mm(a.mm, b.mm),
-            marks: 0,
-        }
+        a.plus(b)
     }
 
     fn opposite(&self, a: Amount) -> Amount {
-        Amount {
-            mm: 0i64.saturating_sub(a.mm),
-            marks: 0,
-        }
+        a.negated()
     }
 
     fn compare(&self, a: Amount, b: Amount) -> Ordering {

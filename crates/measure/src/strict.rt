@@ -3,7 +3,6 @@
 ghost use Rattle.std.specs.Prelude.{◌≡◌, ◌*◌, ◌&&◌, pos, negsuc, int_le};
 ghost use Rattle.measure.specs.Bounds.{UpTo, up_to};
 ghost use Rattle.measure.specs.Integers.{pairs};
-ghost use Rattle.measure.specs.Parts.{Added, Negated};
 ghost use Rattle.measure.specs.Strict.{strict_laws};
 
 use crate::{Amount, Measure};
@@ -12,26 +11,6 @@ use std::cmp::Ordering;
 /// Millimetres, and marks where the millimetres are equal: a mark of -1 reads "less than" for "at most".
 #[derive(Clone, Copy)]
 pub struct StrictDepth;
-
-// The sum, part by part.
-fn add(a: Amount, b: Amount) -> Amount
-    ensures { Added a b result }
-{
-    Amount {
-        mm: a.mm.saturating_add(b.mm),
-        marks: a.marks.saturating_add(b.marks),
-    }
-}
-
-// The opposite, part by part.
-fn negate(a: Amount) -> Amount
-    ensures { Negated a result }
-{
-    Amount {
-        mm: 0i64.saturating_sub(a.mm),
-        marks: 0i32.saturating_sub(a.marks),
-    }
-}
 
 impl Measure for StrictDepth {
     ghost group = { pairs };
@@ -47,25 +26,22 @@ impl Measure for StrictDepth {
     ghost laws = { strict_laws };
 
     fn zero(&self) -> Amount {
-        Amount { mm: 0, marks: 0 }
+        Amount::default()
     }
 
     fn admitted(&self, amount: Amount) -> bool {
-        -20_000_000 <= amount.mm
-            && amount.mm <= 20_000_000
-            && -1 <= amount.marks
-            && amount.marks <= 0
+        amount.has_admitted_mm() && (-1..=0).contains(&amount.marks)
     }
 
     fn sum(&self, a: Amount, b: Amount) -> Amount {
-        add(a, b)
+        a.plus(b)
     }
 
     fn opposite(&self, a: Amount) -> Amount {
-        negate(a)
+        a.negated()
     }
 
     fn compare(&self, a: Amount, b: Amount) -> Ordering {
-        a.mm.cmp(&b.mm).then(a.marks.cmp(&b.marks))
+        a.cmp(&b)
     }
 }

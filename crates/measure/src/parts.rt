@@ -1,0 +1,43 @@
+//! Amounts, part by part.
+
+ghost use Rattle.std.specs.Prelude.{◌≡◌, pos};
+ghost use Rattle.measure.specs.Bounds.{up_to};
+ghost use Rattle.measure.specs.Parts.{Added, Negated};
+
+use crate::Amount;
+
+impl Amount {
+    /// So many millimetres, and no marks.
+    pub const fn millimetres(mm: i64) -> Amount
+        ensures { result ≡ record { mm = mm; marks = pos 0 } }
+    {
+        Amount { mm, marks: 0 }
+    }
+
+    // Whether the millimetres are few enough for a tie.
+    pub(crate) fn has_admitted_mm(self) -> bool
+        ensures { result ≡ up_to 20000000 self.mm }
+    {
+        (-20_000_000..=20_000_000).contains(&self.mm)
+    }
+
+    // The sum, part by part.
+    pub(crate) fn plus(self, other: Amount) -> Amount
+        ensures { Added self other result }
+    {
+        Amount {
+            mm: self.mm.saturating_add(other.mm),
+            marks: self.marks.saturating_add(other.marks),
+        }
+    }
+
+    // The opposite, part by part.
+    pub(crate) fn negated(self) -> Amount
+        ensures { Negated self result }
+    {
+        Amount {
+            mm: 0i64.saturating_sub(self.mm),
+            marks: 0i32.saturating_sub(self.marks),
+        }
+    }
+}
