@@ -11,7 +11,7 @@ pub use list::TieList;
 use measure::Amount;
 
 /// A tie: marker `end` lies at most `amount` deeper than marker `start`.
-#[derive(Clone, Copy, PartialEq, Eq, Debug)]
+#[derive(Clone, Copy, PartialEq, Eq, Default, Debug)]
 pub struct TieRecord {
     pub start: u16,
     pub end: u16,
