@@ -30,7 +30,11 @@ fn try_both<S: TieStore, M: Measure>(
     let (_, kept) = solver.trial(0, 1, first, &mut cycle)?;
     keep_trial(solver, Some(kept));
     let (_, tried) = solver.trial(0, 2, then, &mut cycle)?;
-    end_trial(solver, Some(tried)).ok_or(Refusal::WrongToken)
+    let Some(counts) = end_trial(solver, Some(tried)) else {
+        // the token in hand is that of the trial
+        unreachable()
+    };
+    Ok(counts)
 }
 
 fn run(rt: &HostRuntime) -> anyhow::Result<()> {
