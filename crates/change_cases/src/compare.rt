@@ -2,36 +2,69 @@
 
 ghost use Rattle.solver.specs.Suits.{Suits};
 
-use crate::plain::{Bounds, Change, index, number, place};
-use measure::Measure;
+use crate::plain::{Change, Well, index, number};
+use arrayvec::ArrayVec;
+use measure::{Amount, Measure};
 use solver::Solver;
 use std::process::Abort;
 use std::test::Fail;
 use store::TieStore;
+use table::Row;
 
 /// What a buffer has before a call.
 pub const UNTOUCHED: u16 = 999;
 
-#[derive(Clone, Copy)]
-pub struct Rows {
-    depths: [i64; 64],
-    parents: [u16; 64],
-}
+/// The row of each marker. Those past the last marker never change.
+pub type Rows = [Row; 64];
 
 /// All rows of a solver.
 pub fn rows_of<S: TieStore, M: Measure>(solver: &Solver<S, M>, n: u16) -> Result<Rows, Fail>
     requires suits { Suits S.TieStore M.Measure solver.now }
 {
-    let mut rows = Rows {
-        depths: [0; 64],
-        parents: [0; 64],
-    };
-    for m in 0..n {
-        let row = solver.depth(m)?;
-        rows.depths[index(m)] = number(row.depth);
-        rows.parents[index(m)] = row.parent;
+    let depth = Amount::default();
+    let mut rows = [Row { depth, parent: 0 }; 64];
+    for (m, row) in (0..n).zip(&mut rows) {
+        *row = solver.depth(m)?;
     }
     Ok(rows)
+}
+
+// The path of a marker, datum first, by the parents of the rows.
+fn path_of(rows: &Rows, marker: u16) -> Option<ArrayVec<u16, 64>> {
+    let mut path = ArrayVec::new();
+    let mut m = marker;
+    for _step in 0..64u16 {
+        path.try_push(m).ok()?;
+        if m == 0 {
+            path.reverse();
+            return Some(path);
+        }
+        m = rows[index(m)].parent;
+    }
+    None
+}
+
+// What the bounds from each marker to the next add up to, if all of them stand.
+fn sum_along(well: &Well, markers: &[u16]) -> Option<i64> {
+    let mut sum: i64 = 0;
+    for &[from, to] in markers.array_windows::<2>() {
+        sum = sum.saturating_add(well.bound(from, to)?);
+    }
+    Some(sum)
+}
+
+/// A buffer is as it was.
+pub fn check_untouched(rt: &impl Abort, buffer: &[u16]) {
+    assert!(rt; buffer.iter().all(|&marker| marker == UNTOUCHED));
+}
+
+/// What a call wrote to the front of a buffer; the rest is as it was.
+pub fn written<'a>(rt: &impl Abort, buffer: &'a [u16], length: u16) -> Result<&'a [u16], Fail> {
+    let (front, rest) = buffer
+        .split_at_checked(usize::from(length))
+        .ok_or("longer than the buffer")?;
+    check_untouched(rt, rest);
+    Ok(front)
 }
 
 /// Every path goes from the datum to its marker, by the parents of the rows.
@@ -44,129 +77,76 @@ pub fn check_paths<S: TieStore, M: Measure>(
     requires suits { Suits S.TieStore M.Measure solver.now }
 {
     for m in 0..n {
-        let mut path = [UNTOUCHED; 64];
-        let length = solver.path(m, &mut path)?;
-        assert!(rt; 1 <= length && length <= n);
-        assert_eq!(rt; path[0], 0);
-        assert_eq!(rt; path[index(length.saturating_sub(1))], m);
-        for i in 1..length {
-            assert_eq!(rt;
-                rows.parents[index(path[index(i)])],
-                path[index(i.saturating_sub(1))]
-            );
-        }
-        check_untouched(rt, &path, length)?;
+        let mut buffer = [UNTOUCHED; 64];
+        let length = solver.path(m, &mut buffer)?;
+        assert!(rt; length <= n);
+        let path = path_of(rows, m).ok_or("parents that do not lead to the datum")?;
+        assert_eq!(rt; written(rt, &buffer, length)?, path.as_slice());
     }
     Ok(())
-}
-
-/// A buffer is as it was, from a place on.
-pub fn check_untouched(rt: &impl Abort, buffer: &[u16; 64], first: u16) -> Result<(), Fail> {
-    for i in first..64 {
-        assert_eq!(rt; buffer[index(i)], UNTOUCHED);
-    }
-    Ok(())
-}
-
-pub fn check_same(rt: &impl Abort, old: &Rows, new: &Rows) {
-    assert_eq!(rt; &old.depths, &new.depths);
-    assert_eq!(rt; &old.parents, &new.parents);
 }
 
 /// The depths are the deepest that fit, and every parent's bound is met exactly.
-pub fn check_depths(
-    rt: &impl Abort,
-    n: u16,
-    bounds: &Bounds,
-    deepest: &[i64; 64],
-    rows: &Rows,
-) -> Result<(), Fail> {
-    assert_eq!(rt; rows.depths[0], 0);
-    assert_eq!(rt; rows.parents[0], 0);
-    for m in 1..n {
-        let depth = rows.depths[index(m)];
-        assert_eq!(rt; depth, deepest[index(m)]);
-        let parent = rows.parents[index(m)];
-        assert!(rt; parent < n);
-        let bound = bounds[place(parent, m)].ok_or("no bound from the parent")?;
-        assert_eq!(rt; rows.depths[index(parent)].saturating_add(bound), depth);
+pub fn check_depths(rt: &impl Abort, well: &Well, rows: &Rows) -> Result<(), Fail> {
+    let deepest = well.depths().ok_or("no depths fit")?;
+    assert_eq!(rt; number(rows[0].depth), 0);
+    assert_eq!(rt; rows[0].parent, 0);
+    for m in 1..well.n {
+        let Row { depth, parent } = rows[index(m)];
+        assert_eq!(rt; number(depth), deepest[index(m)]);
+        assert!(rt; parent < well.n);
+        let bound = well.bound(parent, m).ok_or("no bound from the parent")?;
+        assert_eq!(rt;
+            number(rows[index(parent)].depth).saturating_add(bound),
+            number(depth)
+        );
     }
     Ok(())
 }
 
-// What the bounds along the path of a marker add up to, if all of them stand.
-fn path_sum(bounds: &Bounds, rows: &Rows, marker: u16) -> Option<i64> {
-    let mut sum: i64 = 0;
-    let mut m = marker;
-    for _step in 0..64u16 {
-        if m == 0 {
-            return Some(sum);
-        }
-        let parent = rows.parents[index(m)];
-        sum = sum.saturating_add(bounds[place(parent, m)]?);
-        m = parent;
-    }
-    None
-}
-
-fn is_same_path(old: &Rows, new: &Rows, marker: u16) -> bool {
-    let mut m = marker;
-    for _step in 0..64u16 {
-        if old.parents[index(m)] != new.parents[index(m)] {
-            return false;
-        }
-        m = old.parents[index(m)];
-    }
-    m == 0
-}
-
 /// A marker whose old path stands, and adds up to its new depth, has that path still.
-pub fn check_kept(rt: &impl Abort, n: u16, bounds: &Bounds, old: &Rows, new: &Rows) {
-    for m in 0..n {
-        if let Some(sum) = path_sum(bounds, old, m) {
-            assert!(rt; sum != new.depths[index(m)] || is_same_path(old, new, m));
+pub fn check_kept(rt: &impl Abort, well: &Well, old: &Rows, new: &Rows) -> Result<(), Fail> {
+    for m in 0..well.n {
+        let path = path_of(old, m).ok_or("old parents that do not lead to the datum")?;
+        if sum_along(well, &path) == Some(number(new[index(m)].depth)) {
+            assert_eq!(rt; path_of(new, m), Some(path));
         }
     }
+    Ok(())
 }
 
 /// How many markers have another depth, and how many another parent.
-pub fn differences(n: u16, old: &Rows, new: &Rows) -> (u16, u16) {
-    let mut moved: u16 = 0;
-    let mut reparented: u16 = 0;
-    for m in 0..n {
-        if old.depths[index(m)] != new.depths[index(m)] {
-            moved = moved.saturating_add(1);
-        }
-        if old.parents[index(m)] != new.parents[index(m)] {
-            reparented = reparented.saturating_add(1);
-        }
-    }
-    (moved, reparented)
+pub fn differences(old: &Rows, new: &Rows) -> (usize, usize) {
+    let moved = old
+        .iter()
+        .zip(new)
+        .filter(|(old, new)| old.depth != new.depth);
+    let reparented = old
+        .iter()
+        .zip(new)
+        .filter(|(old, new)| old.parent != new.parent);
+    (moved.count(), reparented.count())
 }
 
-/// The front of the buffer has a cycle from the end of the changed pair to its start, which sums to less than zero.
+/// The markers are a cycle from the end of the changed pair to its start, which sums to less than zero.
 pub fn check_cycle(
     rt: &impl Abort,
-    n: u16,
-    bounds: &Bounds,
+    well: &Well,
     change: Change,
-    cycle: &[u16; 64],
-    length: u16,
+    cycle: &[u16],
 ) -> Result<(), Fail> {
-    assert!(rt; 2 <= length && length <= n);
-    assert_eq!(rt; cycle[0], change.to);
-    assert_eq!(rt; cycle[index(length.saturating_sub(1))], change.from);
+    assert!(rt; 2 <= cycle.len() && cycle.len() <= usize::from(well.n));
+    assert_eq!(rt; cycle.first(), Some(&change.to));
+    assert_eq!(rt; cycle.last(), Some(&change.from));
     let mut seen = [false; 64];
-    let mut sum: i64 = 0;
-    let mut before = change.from;
-    for i in 0..length {
-        let m = cycle[index(i)];
-        assert!(rt; m < n && !seen[index(m)]);
+    for &m in cycle {
+        assert!(rt; m < well.n && !seen[index(m)]);
         seen[index(m)] = true;
-        let bound = bounds[place(before, m)].ok_or("no bound along the cycle")?;
-        sum = sum.saturating_add(bound);
-        before = m;
     }
-    assert!(rt; sum < 0);
-    check_untouched(rt, cycle, length)
+    let closing = well
+        .bound(change.from, change.to)
+        .ok_or("no bound that closes the cycle")?;
+    let others = sum_along(well, cycle).ok_or("no bound along the cycle")?;
+    assert!(rt; closing.saturating_add(others) < 0);
+    Ok(())
 }

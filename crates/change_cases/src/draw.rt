@@ -1,6 +1,6 @@
 //! Changes drawn by a linear congruential generator.
 
-use crate::plain::{Change, Well, index, place};
+use crate::plain::{Change, Well, index};
 use measure::Amount;
 
 #[derive(Drop)]
@@ -25,8 +25,8 @@ impl Draw {
     /// Depths that most of the ties to be drawn fit, in whole metres from 0 to 8.
     pub fn aims(&mut self) -> [i64; 64] {
         let mut aims = [0; 64];
-        for m in 1..64usize {
-            aims[m] = 1000 * i64::from(self.below(9));
+        for aim in aims.iter_mut().skip(1) {
+            *aim = 1000 * i64::from(self.below(9));
         }
         aims
     }
@@ -42,16 +42,11 @@ impl Draw {
 
     fn amount(&mut self, least_mark: i32, difference: i64) -> Amount {
         if self.below(40) == 0 {
-            return Amount {
-                mm: 20_000_001,
-                marks: 0,
-            };
+            return Amount::millimetres(20_000_001);
         }
-        let strict = self.below(4) == 0;
-        Amount {
-            mm: difference.saturating_add(self.slack()),
-            marks: if strict { least_mark } else { 0 },
-        }
+        let marks = if self.below(4) == 0 { least_mark } else { 0 };
+        let mm = difference.saturating_add(self.slack());
+        Amount { mm, marks }
     }
 
     // Two markers that lie near each other by number, or the datum and another: few enough pairs that they recur. At times one
@@ -70,20 +65,13 @@ impl Draw {
     /// A tie to be put, replaced or taken away.
     pub fn change(&mut self, well: &Well, aims: &[i64; 64]) -> Change {
         let (from, to) = self.pair(well.n);
-        let there = well.ties[place(from, to)].is_some();
-        let odds = if there { 2 } else { 30 };
-        if self.below(odds) == 0 {
-            return Change {
-                from,
-                to,
-                amount: None,
-            };
-        }
-        let difference = aims[index(to)].saturating_sub(aims[index(from)]);
-        Change {
-            from,
-            to,
-            amount: Some(self.amount(well.least_mark, difference)),
-        }
+        let odds = if well.tie(from, to).is_some() { 2 } else { 30 };
+        let amount = if self.below(odds) == 0 {
+            None
+        } else {
+            let difference = aims[index(to)].saturating_sub(aims[index(from)]);
+            Some(self.amount(well.least_mark, difference))
+        };
+        Change { from, to, amount }
     }
 }

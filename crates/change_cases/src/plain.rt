@@ -1,12 +1,9 @@
-//! Ties, bounds and depths by plain tables. An amount is one number here: its millimetres times 1,024, and its marks.
+//! Ties, bounds and depths, plainly. An amount is one number here: its millimetres times 1,024, and its marks.
 
 ghost use Rattle.std.specs.Prelude.{◌<◌};
 
 use law::Refusal;
 use measure::Amount;
-
-/// The bound of each ordered pair of markers, if it has one.
-pub type Bounds = [Option<i64>; 4096];
 
 /// One pair of markers, and the amount that its tie is to have; none if the tie is to go.
 #[derive(Clone, Copy)]
@@ -22,8 +19,8 @@ pub struct Well {
     pub n: u16,
     pub total: Amount,
     pub least_mark: i32,
-    pub room: usize,
-    pub ties: [Option<Amount>; 4096],
+    room: usize,
+    ties: [Option<Amount>; 4096],
 }
 
 pub fn number(amount: Amount) -> i64 {
@@ -39,21 +36,15 @@ pub fn index(marker: u16) -> usize
     usize::from(marker % 64)
 }
 
-/// Where a pair stands in a table.
-pub fn place(from: u16, to: u16) -> usize
+// Where a pair stands among the ties.
+fn place(from: u16, to: u16) -> usize
     ensures { result < 4096 }
 {
     index(from) * 64 + index(to)
 }
 
-fn capped(tie: Option<Amount>, cap: i64) -> i64 {
-    match tie {
-        Some(amount) => number(amount).min(cap),
-        None => cap,
-    }
-}
-
 impl Well {
+    /// A well without ties, with room for so many. The marks of an amount are from `least_mark` to 0.
     pub fn new(n: u16, total: Amount, least_mark: i32, room: usize) -> Well {
         Well {
             n,
@@ -64,53 +55,38 @@ impl Well {
         }
     }
 
+    pub fn tie(&self, from: u16, to: u16) -> Option<Amount> {
+        self.ties[place(from, to)]
+    }
+
     pub fn changed(&self, change: Change) -> Well {
         let mut next = *self;
         next.ties[place(change.from, change.to)] = change.amount;
         next
     }
 
-    fn bound(&self, from: u16, to: u16) -> Option<i64> {
-        let tie = self.ties[place(from, to)];
-        if from == to {
+    /// How far below the first marker the second lies at most, if that is bounded.
+    pub fn bound(&self, from: u16, to: u16) -> Option<i64> {
+        let tie = self.tie(from, to).map(number);
+        let total = number(self.total);
+        if from == to || from >= self.n || to >= self.n {
             None
         } else if from == 0 {
-            Some(capped(tie, number(self.total)))
+            Some(tie.unwrap_or(total).min(total))
         } else if to == 0 {
-            Some(capped(tie, 0))
+            Some(tie.unwrap_or(0).min(0))
         } else {
-            match tie {
-                Some(amount) => Some(number(amount)),
-                None => None,
-            }
+            tie
         }
-    }
-
-    pub fn bounds(&self) -> Bounds {
-        let mut bounds: Bounds = [None; 4096];
-        for from in 0..self.n {
-            for to in 0..self.n {
-                bounds[place(from, to)] = self.bound(from, to);
-            }
-        }
-        bounds
     }
 
     fn is_full(&self) -> bool {
-        let mut count: usize = 0;
-        for tie in &self.ties {
-            if tie.is_some() {
-                count = count.saturating_add(1);
-            }
-        }
-        count >= self.room
+        self.ties.iter().flatten().count() >= self.room
     }
 
     fn admits(&self, amount: Amount) -> bool {
-        -20_000_000 <= amount.mm
-            && amount.mm <= 20_000_000
-            && self.least_mark <= amount.marks
-            && amount.marks <= 0
+        (-20_000_000..=20_000_000).contains(&amount.mm)
+            && (self.least_mark..=0).contains(&amount.marks)
     }
 
     /// Why a change is refused before anything is solved.
@@ -121,31 +97,42 @@ impl Well {
         if change.from == change.to {
             return Some(Refusal::SameMarker);
         }
-        let empty = self.ties[place(change.from, change.to)].is_none();
-        match change.amount {
-            Some(amount) if !self.admits(amount) => Some(Refusal::BadAmount),
-            Some(_) if empty && self.is_full() => Some(Refusal::StoreFull),
-            None if empty => Some(Refusal::PairEmpty),
+        match (self.tie(change.from, change.to), change.amount) {
+            (_, Some(amount)) if !self.admits(amount) => Some(Refusal::BadAmount),
+            (None, Some(_)) if self.is_full() => Some(Refusal::StoreFull),
+            (None, None) => Some(Refusal::PairEmpty),
             _ => None,
         }
     }
 
     /// The deepest depths that fit the bounds: in n passes over all bounds, of which the last changes nothing unless no depths
     /// fit.
-    pub fn depths(&self, bounds: &Bounds) -> Option<[i64; 64]> {
+    pub fn depths(&self) -> Option<[i64; 64]> {
+        // worked out once: asked for anew in each pass, the bounds take most of the time
+        let bounds = self.bounds();
         let mut depths = [number(self.total); 64];
         depths[0] = 0;
         for _pass in 0..self.n {
-            if !lowered(self.n, bounds, &mut depths) {
+            if !lowered(self.n, &bounds, &mut depths) {
                 return Some(depths);
             }
         }
         None
     }
+
+    fn bounds(&self) -> [Option<i64>; 4096] {
+        let mut bounds = [None; 4096];
+        for from in 0..self.n {
+            for to in 0..self.n {
+                bounds[place(from, to)] = self.bound(from, to);
+            }
+        }
+        bounds
+    }
 }
 
 // One pass over all bounds: whether a depth was too deep for one of them.
-fn lowered(n: u16, bounds: &Bounds, depths: &mut [i64; 64]) -> bool {
+fn lowered(n: u16, bounds: &[Option<i64>; 4096], depths: &mut [i64; 64]) -> bool {
     let mut any = false;
     for from in 0..n {
         for to in 0..n {

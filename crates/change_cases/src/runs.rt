@@ -3,8 +3,8 @@
 ghost use Rattle.solver.specs.Suits.{Suits};
 
 use crate::compare::{
-    Rows, UNTOUCHED, check_cycle, check_depths, check_kept, check_paths, check_same,
-    check_untouched, differences, rows_of,
+    Rows, UNTOUCHED, check_cycle, check_depths, check_kept, check_paths, check_untouched,
+    differences, rows_of, written,
 };
 use crate::draw::Draw;
 use crate::plain::{Change, Well};
@@ -15,37 +15,8 @@ use std::process::Abort;
 use std::test::Fail;
 use store::{TieList, TieRecord, TieStore};
 
-const NO_TIE: TieRecord = TieRecord {
-    start: 0,
-    end: 0,
-    amount: Amount { mm: 0, marks: 0 },
-};
-
-const TOTAL: Amount = Amount { mm: 8000, marks: 0 };
-
-// How many changes of a run were accepted, moved a marker, were a contradiction, or were refused for another reason.
-#[derive(Clone, Copy)]
-struct Answers {
-    accepted: u16,
-    moving: u16,
-    contradictions: u16,
-    refused: u16,
-}
-
-impl Answers {
-    fn add(&mut self, answer: Result<(u16, u16), Refusal>) {
-        match answer {
-            Ok((moved, _)) => {
-                self.accepted = self.accepted.saturating_add(1);
-                self.moving = self.moving.saturating_add(moved.min(1));
-            }
-            Err(Refusal::Contradiction { .. }) => {
-                self.contradictions = self.contradictions.saturating_add(1);
-            }
-            Err(_) => self.refused = self.refused.saturating_add(1),
-        }
-    }
-}
+// What a change is answered: the two counts, or the refusal.
+type Answer = Result<(u16, u16), Refusal>;
 
 // What holds of the rows after an accepted change, and of the counts that it answered.
 fn check_accepted<S: TieStore, M: Measure>(
@@ -57,35 +28,42 @@ fn check_accepted<S: TieStore, M: Measure>(
 ) -> Result<(), Fail>
     requires suits { Suits S.TieStore M.Measure solver.now }
 {
-    let n = next.n;
-    let new = rows_of(solver, n)?;
-    let bounds = next.bounds();
-    let deepest = next.depths(&bounds).ok_or("no depths fit")?;
-    check_depths(rt, n, &bounds, &deepest, &new)?;
-    check_paths(rt, solver, n, &new)?;
-    check_kept(rt, n, &bounds, old, &new);
-    assert_eq!(rt; counts, differences(n, old, &new));
+    let new = rows_of(solver, next.n)?;
+    check_depths(rt, next, &new)?;
+    check_paths(rt, solver, next.n, &new)?;
+    check_kept(rt, next, old, &new)?;
+    let (moved, reparented) = counts;
+    assert_eq!(rt;
+        (usize::from(moved), usize::from(reparented)),
+        differences(old, &new)
+    );
     Ok(())
 }
 
-// What holds of a contradiction, and of the buffer that it leaves.
-fn check_contradiction(
+// What holds of a refusal, and of the buffer that it leaves.
+fn check_refused(
     rt: &impl Abort,
-    next: &Well,
+    well: &Well,
     change: Change,
-    cycle: &[u16; 64],
-    length: u16,
+    why: Refusal,
+    buffer: &[u16],
 ) -> Result<(), Fail> {
-    let bounds = next.bounds();
-    assert!(rt; next.depths(&bounds).is_none());
-    check_cycle(rt, next.n, &bounds, change, cycle, length)
+    let Refusal::Contradiction { length } = why else {
+        assert_eq!(rt; well.refusal(change), Some(why));
+        check_untouched(rt, buffer);
+        return Ok(());
+    };
+    assert_eq!(rt; well.refusal(change), None);
+    let next = well.changed(change);
+    assert!(rt; next.depths().is_none());
+    check_cycle(rt, &next, change, written(rt, buffer, length)?)
 }
 
 fn make<S: TieStore, M: Measure>(
     solver: &mut Solver<S, M>,
     change: Change,
     cycle: &mut [u16; 64],
-) -> Result<(u16, u16), Refusal>
+) -> Answer
     requires suits { Suits S.TieStore M.Measure solver.old }
     ensures suits { Suits S.TieStore M.Measure solver.new }
 {
@@ -101,136 +79,116 @@ fn step<S: TieStore, M: Measure>(
     solver: &mut Solver<S, M>,
     well: &mut Well,
     change: Change,
-    answers: &mut Answers,
-) -> Result<(), Fail>
+) -> Result<Answer, Fail>
     requires suits { Suits S.TieStore M.Measure solver.old }
     ensures suits { Suits S.TieStore M.Measure solver.new }
 {
-    let next = well.changed(change);
-    let refusal = well.refusal(change);
     let old = rows_of(solver, well.n)?;
     let count = solver.change_count();
-    let mut cycle = [UNTOUCHED; 64];
-    let answer = make(solver, change, &mut cycle);
-    answers.add(answer);
-    if let Ok(counts) = answer {
-        assert_eq!(rt; refusal, None);
-        check_accepted(rt, solver, &next, &old, counts)?;
-        assert_eq!(rt; solver.change_count(), count.saturating_add(1));
-        *well = next;
-    } else {
-        check_same(rt, &old, &rows_of(solver, well.n)?);
-        assert_eq!(rt; solver.change_count(), count);
-    }
+    let mut buffer = [UNTOUCHED; 64];
+    let answer = make(solver, change, &mut buffer);
     match answer {
-        Ok(_) => check_untouched(rt, &cycle, 0),
-        Err(Refusal::Contradiction { length }) => {
-            assert_eq!(rt; refusal, None);
-            check_contradiction(rt, &next, change, &cycle, length)
+        Ok(counts) => {
+            assert_eq!(rt; well.refusal(change), None);
+            check_untouched(rt, &buffer);
+            let next = well.changed(change);
+            check_accepted(rt, solver, &next, &old, counts)?;
+            assert_eq!(rt; solver.change_count(), count.saturating_add(1));
+            *well = next;
         }
         Err(why) => {
-            assert_eq!(rt; refusal, Some(why));
-            check_untouched(rt, &cycle, 0)
+            check_refused(rt, well, change, why, &buffer)?;
+            assert_eq!(rt; rows_of(solver, well.n)?, old);
+            assert_eq!(rt; solver.change_count(), count);
         }
     }
+    Ok(answer)
 }
 
-// Makes so many changes of a well that has no ties at first.
+// Makes so many changes of a well that has no ties at first: the answers.
 fn run<S: TieStore, M: Measure>(
-    rt: &impl Abort,
+    rt: &(impl Abort + AllocGlobal),
     solver: &mut Solver<S, M>,
     mut well: Well,
     seed: u64,
     changes: u16,
-) -> Result<Answers, Fail>
+) -> Result<Vec<Answer>, Fail>
     requires suits { Suits S.TieStore M.Measure solver.old }
 {
     let mut buffer = [UNTOUCHED; 64];
     assert_eq!(rt; solver.open(&mut buffer), Ok(well.n));
     let mut draw = Draw::new(seed);
     let aims = draw.aims();
-    let mut answers = Answers {
-        accepted: 0,
-        moving: 0,
-        contradictions: 0,
-        refused: 0,
-    };
+    let mut answers = Vec::new(rt.alloc());
     for i in 0..changes {
         let change = draw.change(&well, &aims);
-        step(rt, solver, &mut well, change, &mut answers)?;
+        answers.push(step(rt, solver, &mut well, change)?)?;
     }
     Ok(answers)
 }
 
-// The same over a list in these records. The marks of an amount are from `least_mark` to 0.
+// No run is of one kind of answer alone.
+fn check_mixed(rt: &impl Abort, answers: &[Answer]) {
+    let accepted = answers.iter().filter(|answer| answer.is_ok());
+    let moving = answers
+        .iter()
+        .filter(|answer| matches!(answer, Ok((1.., _))));
+    let contradictions = answers.iter().filter(|answer| matches!(
+        answer,
+        Err(Refusal::Contradiction { .. })
+    ));
+    let others = answers.iter().filter(
+        |answer| matches!(answer, Err(why) if why.cycle_length().is_none()),
+    );
+    assert!(rt; accepted.count() >= 200);
+    assert!(rt; moving.count() >= 50);
+    assert!(rt; contradictions.count() >= 40);
+    assert!(rt; others.count() >= 40);
+}
+
+// A run over a list in these records.
 fn run_on_list<M: Measure + Drop>(
-    rt: &impl Abort,
+    rt: &(impl Abort + AllocGlobal),
     measure: M,
     least_mark: i32,
     n: u16,
     records: &mut [TieRecord],
     seed: u64,
     changes: u16,
-) -> Result<Answers, Fail> {
-    let room = records.len();
-    TieList::check(n, room)?;
+) -> Result<(), Fail> {
+    TieList::check(n, records.len())?;
+    let total = Amount::millimetres(8000);
+    let well = Well::new(n, total, least_mark, records.len());
     let list = TieList::new(n, records);
-    let mut solver = Solver::new(list, measure, TOTAL, 0);
-    run(
-        rt,
-        &mut solver,
-        Well::new(n, TOTAL, least_mark, room),
-        seed,
-        changes,
-    )
+    let mut solver = Solver::new(list, measure, total, 0);
+    check_mixed(rt, &run(rt, &mut solver, well, seed, changes)?);
+    Ok(())
 }
 
-// No run is of one kind of answer alone.
-fn check_mixed(rt: &impl Abort, answers: Answers) {
-    assert!(rt; answers.accepted >= 200);
-    assert!(rt; answers.moving >= 50);
-    assert!(rt; answers.contradictions >= 40);
-    assert!(rt; answers.refused >= 40);
+// Two runs in these records, by plain and by strict depth.
+fn run_both(
+    rt: &(impl Abort + AllocGlobal),
+    n: u16,
+    records: &mut [TieRecord],
+    seeds: [u64; 2],
+    changes: u16,
+) -> Result<(), Fail> {
+    let [plain, strict] = seeds;
+    run_on_list(rt, PlainDepth, 0, n, records, plain, changes)?;
+    run_on_list(rt, StrictDepth, -1, n, records, strict, changes)
 }
 
 #[test]
 fn eight_markers(rt: HostRuntime) -> Result<(), Fail> {
-    let mut records = [NO_TIE; 24];
-    check_mixed(
-        &rt,
-        run_on_list(&rt, PlainDepth, 0, 8, &mut records, 1, 400)?,
-    );
-    check_mixed(
-        &rt,
-        run_on_list(&rt, StrictDepth, -1, 8, &mut records, 2, 400)?,
-    );
-    Ok(())
+    run_both(&rt, 8, &mut [TieRecord::default(); 24], [1, 2], 400)
 }
 
 #[test]
 fn sixteen_markers(rt: HostRuntime) -> Result<(), Fail> {
-    let mut records = [NO_TIE; 60];
-    check_mixed(
-        &rt,
-        run_on_list(&rt, PlainDepth, 0, 16, &mut records, 3, 400)?,
-    );
-    check_mixed(
-        &rt,
-        run_on_list(&rt, StrictDepth, -1, 16, &mut records, 4, 400)?,
-    );
-    Ok(())
+    run_both(&rt, 16, &mut [TieRecord::default(); 60], [3, 4], 400)
 }
 
 #[test]
 fn sixty_four_markers(rt: HostRuntime) -> Result<(), Fail> {
-    let mut records = [NO_TIE; 220];
-    check_mixed(
-        &rt,
-        run_on_list(&rt, PlainDepth, 0, 64, &mut records, 5, 600)?,
-    );
-    check_mixed(
-        &rt,
-        run_on_list(&rt, StrictDepth, -1, 64, &mut records, 6, 600)?,
-    );
-    Ok(())
+    run_both(&rt, 64, &mut [TieRecord::default(); 220], [5, 6], 600)
 }

@@ -7,44 +7,36 @@ ghost use Rattle.std.specs.Prelude.{◌≡◌};
 ghost use Rattle.solver.specs.Suits.{Suits};
 ghost use Rattle.solver.specs.Trials.{CanRollBack};
 
+use law::Refusal;
 use measure::{Amount, Measure, PlainDepth};
 use replay::keep_trial;
 use solver::Solver;
 use store::{TieList, TieRecord, TieStore};
 
-fn mm(mm: i64) -> Amount {
-    Amount { mm, marks: 0 }
-}
-
-// Tries the tie from 0 to 1, and keeps it: the two counts.
-fn keep<S: TieStore, M: Measure>(solver: &mut Solver<S, M>, amount: Amount) -> Option<(u16, u16)>
+// Opens the solver, tries the tie from 0 to 1, and keeps it: the two counts.
+fn keep<S: TieStore, M: Measure>(
+    solver: &mut Solver<S, M>,
+    amount: Amount,
+) -> Result<(u16, u16), Refusal>
     requires suits { Suits S.TieStore M.Measure solver.old }
     requires trial { CanRollBack S.TieStore M.Measure solver.old }
     ensures suits { Suits S.TieStore M.Measure solver.new }
     ensures trial { CanRollBack S.TieStore M.Measure solver.new }
 {
-    let mut cycle = [0u16; 4];
-    let Ok((counts, token)) = solver.trial(0, 1, amount, &mut cycle) else {
-        return None;
-    };
+    let mut cycle = [0; 4];
+    solver.open(&mut cycle)?;
+    let (counts, token) = solver.trial(0, 1, amount, &mut cycle)?;
     keep_trial(solver, Some(token));
-    Some(counts)
+    Ok(counts)
 }
 
 fn run(rt: &HostRuntime) -> anyhow::Result<()> {
-    let mut records = [TieRecord {
-        start: 0,
-        end: 0,
-        amount: mm(0),
-    }; 8];
-    let mut cycle = [0u16; 4];
-    let mut solver = Solver::new(TieList::new(4, &mut records), PlainDepth, mm(3_000_000), 7);
-    let _ = solver.open(&mut cycle);
-    match keep(&mut solver, mm(2_000_000)) {
-        Some((moved, reparented)) => println!(rt;
-            "kept: {moved} moved and {reparented} reparented"
-        )?,
-        None => println!(rt; "refused")?,
+    let mut records = [TieRecord::default(); 8];
+    let list = TieList::new(4, &mut records);
+    let mut solver = Solver::new(list, PlainDepth, Amount::millimetres(3_000_000), 7);
+    match keep(&mut solver, Amount::millimetres(2_000_000)) {
+        Ok((moved, reparented)) => println!(rt; "kept: {moved} moved and {reparented} reparented")?,
+        Err(why) => println!(rt; "refused {}", why.code())?,
     }
     Ok(())
 }

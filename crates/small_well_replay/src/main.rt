@@ -10,17 +10,71 @@ use layers::{Locked, Screened};
 use matrix::TieMatrix;
 use measure::{Amount, PlainDepth};
 use replay::{Run, end_trial, replay_new};
+use std::fmt;
 use store::{TieList, TieRecord, TieStore};
 
-fn mm(mm: i64) -> Amount {
-    Amount { mm, marks: 0 }
+// The call of an entry, as text.
+#[derive(Clone, Copy)]
+struct Asked<'a>(&'a Entry);
+
+impl fmt::Display for Asked<'_> {
+    fn fmt<W: fmt::Write>(&self, f: &mut fmt::Formatter<W>) -> fmt::Result {
+        match self.0.call {
+            Call::Open { .. } => write!(f, "open"),
+            Call::Tie {
+                from,
+                to,
+                amount,
+                ..
+            } => write!(f, "tie {from} to {to}, {}", amount.mm),
+            Call::Untie { from, to } => write!(f, "untie {from} to {to}"),
+            Call::Trial {
+                from,
+                to,
+                amount,
+                ..
+            } => write!(f, "trial {from} to {to}, {}", amount.mm),
+            Call::Commit { number } => write!(f, "commit {number}"),
+            Call::RollBack { number } => write!(f, "roll back {number}"),
+            Call::Depth { marker } => write!(f, "depth {marker}"),
+            Call::Path { marker, .. } => write!(f, "path {marker}"),
+        }
+    }
 }
 
-fn tie(from: u16, to: u16, amount: i64) -> Call {
+// The answer of an entry, as text.
+#[derive(Clone, Copy)]
+struct Told<'a>(&'a Entry);
+
+impl fmt::Display for Told<'_> {
+    fn fmt<W: fmt::Write>(&self, f: &mut fmt::Formatter<W>) -> fmt::Result {
+        match self.0.answer {
+            Answer::Refused {
+                why: Refusal::Contradiction { length },
+            } => {
+                write!(f, "contradiction")?;
+                for marker in self.0.buffer.iter().take(usize::from(length)) {
+                    write!(f, " {marker}")?;
+                }
+                Ok(())
+            }
+            Answer::Refused { why } => write!(f, "refused {}", why.code()),
+            Answer::Opened { markers } => write!(f, "{markers} markers"),
+            Answer::Changed { moved, reparented } => {
+                write!(f, "{moved} moved and {reparented} reparented")
+            }
+            Answer::Committed => write!(f, "committed"),
+            Answer::Row { depth, parent } => write!(f, "{} ({parent})", depth.mm),
+            Answer::Length { length } => write!(f, "length {length}"),
+        }
+    }
+}
+
+fn tie(from: u16, to: u16, mm: i64) -> Call {
     Call::Tie {
         from,
         to,
-        amount: mm(amount),
+        amount: Amount::millimetres(mm),
         room: 4,
     }
 }
@@ -36,7 +90,7 @@ fn calls() -> [Call; 12] {
         Call::Trial {
             from: 0,
             to: 2,
-            amount: mm(2_005_000),
+            amount: Amount::millimetres(2_005_000),
             room: 4,
         },
         Call::RollBack { number: 7 },
@@ -48,7 +102,7 @@ fn calls() -> [Call; 12] {
 }
 
 // An entry whose answer is not filled in yet.
-fn asked(call: Call) -> Entry {
+fn unanswered(call: Call) -> Entry {
     Entry {
         call,
         answer: Answer::Committed,
@@ -56,89 +110,38 @@ fn asked(call: Call) -> Entry {
     }
 }
 
-// Each call, followed by two readings.
-fn log() -> [Entry; 36] {
-    let mut entries = [asked(Call::Depth { marker: 1 }); 36];
-    let calls = calls();
-    for i in 0..12usize {
-        entries[3 * i] = asked(calls[i]);
-        entries[3 * i + 2] = asked(Call::Depth { marker: 2 });
-    }
-    entries
-}
-
-fn tell_call(rt: &HostRuntime, call: Call) -> anyhow::Result<()> {
-    match call {
-        Call::Open { .. } => print!(rt; "open: ")?,
-        Call::Tie {
-            from,
-            to,
-            amount,
-            ..
-        } => {
-            let amount = amount.mm;
-            print!(rt; "tie {from} to {to}, {amount}: ")?;
-        }
-        Call::Untie { from, to } => print!(rt; "untie {from} to {to}: ")?,
-        Call::Trial {
-            from,
-            to,
-            amount,
-            ..
-        } => {
-            let amount = amount.mm;
-            print!(rt; "trial {from} to {to}, {amount}: ")?;
-        }
-        Call::Commit { number } => print!(rt; "commit {number}: ")?,
-        Call::RollBack { number } => print!(rt; "roll back {number}: ")?,
-        Call::Depth { marker } => print!(rt; "depth {marker}: ")?,
-        Call::Path { marker, .. } => print!(rt; "path {marker}: ")?,
-    }
-    Ok(())
-}
-
-fn tell_answer(rt: &HostRuntime, entry: &Entry) -> anyhow::Result<()> {
-    match entry.answer {
-        Answer::Refused {
-            why: Refusal::Contradiction { length },
-        } => {
-            print!(rt; "contradiction")?;
-            for marker in entry.buffer.iter().take(usize::from(length)) {
-                print!(rt; " {marker}")?;
-            }
-        }
-        Answer::Refused { why } => {
-            let code = why.code();
-            print!(rt; "refused {code}")?;
-        }
-        Answer::Opened { markers } => print!(rt; "{markers} markers")?,
-        Answer::Changed { moved, reparented } => {
-            print!(rt; "{moved} moved and {reparented} reparented")?;
-        }
-        Answer::Committed => print!(rt; "committed")?,
-        Answer::Row { depth, parent } => {
-            let depth = depth.mm;
-            print!(rt; ", {depth} ({parent})")?;
-        }
-        Answer::Length { length } => print!(rt; "length {length}")?,
-    }
-    Ok(())
+// A call, and then the readings of the markers 1 and 2.
+fn turn(call: Call) -> [Entry; 3] {
+    [
+        unanswered(call),
+        unanswered(Call::Depth { marker: 1 }),
+        unanswered(Call::Depth { marker: 2 }),
+    ]
 }
 
 // Runs the log over a store, and tells it.
 fn run_over<S: TieStore + Drop>(rt: &HostRuntime, name: &str, store: S) -> anyhow::Result<()>
     requires sound { S.TieStore.sound store }
 {
-    let mut entries = log();
-    let Run { mut solver, token } = replay_new(store, PlainDepth, mm(3_000_000), 7, &mut entries);
+    let mut turns = calls().map(turn);
+    let total = Amount::millimetres(3_000_000);
+    let Run { mut solver, token } = replay_new(
+        store,
+        PlainDepth,
+        total,
+        7,
+        turns.as_flattened_mut(),
+    );
     let _ = end_trial(&mut solver, token);
     println!(rt; "{name}")?;
-    for i in 0..12usize {
-        tell_call(rt, entries[3 * i].call)?;
-        tell_answer(rt, &entries[3 * i])?;
-        tell_answer(rt, &entries[3 * i + 1])?;
-        tell_answer(rt, &entries[3 * i + 2])?;
-        println!(rt)?;
+    for [made, first, second] in &turns {
+        println!(rt;
+            "{}: {}, {}, {}",
+            Asked(made),
+            Told(made),
+            Told(first),
+            Told(second)
+        )?;
     }
     let count = solver.change_count();
     println!(rt; "{count} changes")?;
@@ -146,11 +149,7 @@ fn run_over<S: TieStore + Drop>(rt: &HostRuntime, name: &str, store: S) -> anyho
 }
 
 fn run(rt: &HostRuntime) -> anyhow::Result<()> {
-    let mut records = [TieRecord {
-        start: 0,
-        end: 0,
-        amount: mm(0),
-    }; 8];
+    let mut records = [TieRecord::default(); 8];
     let mut cells = [None; 16];
     run_over(rt, "list", TieList::new(4, &mut records))?;
     run_over(rt, "matrix", TieMatrix::new(4, &mut cells))?;

@@ -7,10 +7,30 @@ ghost use Rattle.solver.specs.Suits.{Suits};
 use law::Refusal;
 use measure::{Amount, Measure, PlainDepth};
 use solver::Solver;
+use std::fmt;
 use store::{TieList, TieRecord, TieStore};
 
-fn mm(mm: i64) -> Amount {
-    Amount { mm, marks: 0 }
+// The answer to a change. The cycle of a contradiction stands at the front of the buffer.
+#[derive(Clone, Copy)]
+struct Told<'a> {
+    answer: Result<(u16, u16), Refusal>,
+    buffer: &'a [u16],
+}
+
+impl fmt::Display for Told<'_> {
+    fn fmt<W: fmt::Write>(&self, f: &mut fmt::Formatter<W>) -> fmt::Result {
+        match self.answer {
+            Ok((moved, reparented)) => write!(f, "{moved} moved and {reparented} reparented"),
+            Err(Refusal::Contradiction { length }) => {
+                write!(f, "contradiction")?;
+                for marker in self.buffer.iter().take(usize::from(length)) {
+                    write!(f, " {marker}")?;
+                }
+                Ok(())
+            }
+            Err(why) => write!(f, "refused {}", why.code()),
+        }
+    }
 }
 
 // Ends a line with the row of each of the markers 1 and 2.
@@ -19,34 +39,10 @@ fn tell_rows<S: TieStore, M: Measure>(rt: &HostRuntime, solver: &Solver<S, M>) -
 {
     for m in 1..3u16 {
         if let Ok(row) = solver.depth(m) {
-            let depth = row.depth.mm;
-            let parent = row.parent;
-            print!(rt; ", {depth} ({parent})")?;
+            print!(rt; ", {} ({})", row.depth.mm, row.parent)?;
         }
     }
     println!(rt)?;
-    Ok(())
-}
-
-// The answer to a change. The cycle of a contradiction stands at the front of `cycle`.
-fn tell_answer(
-    rt: &HostRuntime,
-    answer: Result<(u16, u16), Refusal>,
-    cycle: &[u16],
-) -> anyhow::Result<()> {
-    match answer {
-        Ok((moved, reparented)) => print!(rt; "{moved} moved and {reparented} reparented")?,
-        Err(Refusal::Contradiction { length }) => {
-            print!(rt; "contradiction")?;
-            for marker in cycle.iter().take(usize::from(length)) {
-                print!(rt; " {marker}")?;
-            }
-        }
-        Err(why) => {
-            let code = why.code();
-            print!(rt; "refused {code}")?;
-        }
-    }
     Ok(())
 }
 
@@ -54,13 +50,9 @@ fn open<S: TieStore, M: Measure>(rt: &HostRuntime, solver: &mut Solver<S, M>) ->
     requires suits { Suits S.TieStore M.Measure solver.old }
     ensures suits { Suits S.TieStore M.Measure solver.new }
 {
-    let mut cycle = [0u16; 4];
-    match solver.open(&mut cycle) {
+    match solver.open(&mut [0; 4]) {
         Ok(n) => print!(rt; "open: {n} markers")?,
-        Err(why) => {
-            let code = why.code();
-            print!(rt; "open: refused {code}")?;
-        }
+        Err(why) => print!(rt; "open: refused {}", why.code())?,
     }
     tell_rows(rt, solver)
 }
@@ -70,15 +62,18 @@ fn tie<S: TieStore, M: Measure>(
     solver: &mut Solver<S, M>,
     from: u16,
     to: u16,
-    amount: i64,
+    mm: i64,
 ) -> anyhow::Result<()>
     requires suits { Suits S.TieStore M.Measure solver.old }
     ensures suits { Suits S.TieStore M.Measure solver.new }
 {
-    let mut cycle = [0u16; 4];
-    let answer = solver.tie(from, to, mm(amount), &mut cycle);
-    print!(rt; "tie {from} to {to}, {amount}: ")?;
-    tell_answer(rt, answer, &cycle)?;
+    let mut buffer = [0; 4];
+    let answer = solver.tie(from, to, Amount::millimetres(mm), &mut buffer);
+    let told = Told {
+        answer,
+        buffer: &buffer,
+    };
+    print!(rt; "tie {from} to {to}, {mm}: {told}")?;
     tell_rows(rt, solver)
 }
 
@@ -92,19 +87,18 @@ fn untie<S: TieStore, M: Measure>(
     ensures suits { Suits S.TieStore M.Measure solver.new }
 {
     let answer = solver.untie(from, to);
-    print!(rt; "untie {from} to {to}: ")?;
-    tell_answer(rt, answer, &[])?;
+    let told = Told {
+        answer,
+        buffer: &[],
+    };
+    print!(rt; "untie {from} to {to}: {told}")?;
     tell_rows(rt, solver)
 }
 
 fn run(rt: &HostRuntime) -> anyhow::Result<()> {
-    let mut records = [TieRecord {
-        start: 0,
-        end: 0,
-        amount: mm(0),
-    }; 8];
+    let mut records = [TieRecord::default(); 8];
     let list = TieList::new(4, &mut records);
-    let mut solver = Solver::new(list, PlainDepth, mm(3_000_000), 0);
+    let mut solver = Solver::new(list, PlainDepth, Amount::millimetres(3_000_000), 0);
     open(rt, &mut solver)?;
     tie(rt, &mut solver, 0, 1, 2_000_000)?;
     tie(rt, &mut solver, 1, 2, 12_000)?;

@@ -7,55 +7,58 @@ mod tests {
     use law::Refusal;
     use measure::{Amount, PlainDepth};
     use solver::Solver;
-    use store::{TieList, TieRecord, TieStore};
-
-    const NO_TIE: TieRecord = TieRecord {
-        start: 0,
-        end: 0,
-        amount: Amount { mm: 0, marks: 0 },
-    };
-
-    fn mm(mm: i64) -> Amount {
-        Amount { mm, marks: 0 }
-    }
+    use store::{Refusal as StoreRefusal, TieList, TieRecord, TieStore};
 
     // What an opening over four markers without ties answers.
     fn opened(total: i64) -> Result<u16, Refusal> {
-        let mut records = [NO_TIE; 8];
-        let mut buffer = [0u16; 4];
+        let mut records = [TieRecord::default(); 8];
         let list = TieList::new(4, &mut records);
-        let mut solver = Solver::new(list, PlainDepth, mm(total), 0);
-        solver.open(&mut buffer)
+        let mut solver = Solver::new(list, PlainDepth, Amount::millimetres(total), 0);
+        solver.open(&mut [0; 4])
     }
 
     #[test]
     fn total_depths(rt: HostRuntime) {
-        assert_eq!(rt; opened(20_000_000), Ok(4));
-        assert_eq!(rt; opened(20_000_001), Err(Refusal::BadAmount));
-        assert_eq!(rt; opened(1), Ok(4));
-        assert_eq!(rt; opened(0), Err(Refusal::BadAmount));
-        assert_eq!(rt; opened(-1), Err(Refusal::BadAmount));
+        let cases = [
+            (20_000_000, Ok(4)),
+            (20_000_001, Err(Refusal::BadAmount)),
+            (1, Ok(4)),
+            (0, Err(Refusal::BadAmount)),
+            (-1, Err(Refusal::BadAmount)),
+        ];
+        for (total, answer) in cases {
+            assert_eq!(rt; opened(total), answer, "at {total}");
+        }
     }
 
     #[test]
     fn sizes(rt: HostRuntime) {
-        assert!(rt; TieList::check(64, 4096).is_ok());
-        assert!(rt; TieList::check(65, 4096).is_err());
-        assert!(rt; TieList::check(2, 0).is_ok());
-        assert!(rt; TieList::check(1, 0).is_err());
-        assert!(rt; TieList::check(64, 4097).is_err());
+        let cases = [
+            (64, 4096, Ok(())),
+            (65, 4096, Err(StoreRefusal::BadSize)),
+            (2, 0, Ok(())),
+            (1, 0, Err(StoreRefusal::BadSize)),
+            (64, 4097, Err(StoreRefusal::BadSize)),
+        ];
+        for (n, records, answer) in cases {
+            assert_eq!(rt;
+                TieList::check(n, records),
+                answer,
+                "{n} markers, {records} records"
+            );
+        }
     }
 
     #[test]
     fn readings(rt: HostRuntime) {
-        let mut records = [NO_TIE; 8];
-        let mut buffer = [9u16; 5];
-        let mut short = [9u16; 3];
+        let mut records = [TieRecord::default(); 8];
+        let mut buffer = [9; 5];
+        let mut short = [9; 3];
         let mut list = TieList::new(4, &mut records);
-        assert!(rt; list.put(0, 1, mm(2_000_000)).is_ok());
-        assert!(rt; list.put(1, 2, mm(12_000)).is_ok());
-        let mut solver = Solver::new(list, PlainDepth, mm(3_000_000), 0);
-        assert!(rt; solver.depth(0).is_err());
+        assert_eq!(rt; list.put(0, 1, Amount::millimetres(2_000_000)), Ok(()));
+        assert_eq!(rt; list.put(1, 2, Amount::millimetres(12_000)), Ok(()));
+        let mut solver = Solver::new(list, PlainDepth, Amount::millimetres(3_000_000), 0);
+        assert_eq!(rt; solver.depth(0), Err(Refusal::NotOpen));
         assert_eq!(rt; solver.path(2, &mut buffer), Err(Refusal::NotOpen));
         assert_eq!(rt; solver.open(&mut buffer), Ok(4));
         assert_eq!(rt; solver.open(&mut buffer), Err(Refusal::NotNew));

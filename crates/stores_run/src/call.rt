@@ -2,17 +2,15 @@
 
 ghost use Rattle.solver.specs.Suits.{Suits};
 
+use arrayvec::ArrayVec;
 use law::Refusal;
 use measure::{Amount, Measure};
 use solver::Solver;
 use std::fmt;
 use store::TieStore;
+use table::Row;
 
-pub const fn mm(mm: i64) -> Amount {
-    Amount { mm, marks: 0 }
-}
-
-#[derive(Clone, Copy, Drop)]
+#[derive(Clone, Copy)]
 pub enum Call {
     Open,
     Tie(u16, u16, i64),
@@ -24,16 +22,16 @@ pub enum Call {
     ChangeCount,
 }
 
-#[derive(Clone, Copy, Drop)]
+#[derive(Drop)]
 pub enum Answer {
     Markers(u16),
     // markers with another depth, and with another parent
     Changed(u16, u16),
-    Row(i64, u16),
-    Path(u16, [u16; 4]),
-    Cycle(u16, [u16; 4]),
+    Row(Row),
+    Path(ArrayVec<u16, 4>),
+    Cycle(ArrayVec<u16, 4>),
     Count(u32),
-    Refused(u8),
+    Refused(Refusal),
 }
 
 impl fmt::Display for Call {
@@ -52,14 +50,14 @@ impl fmt::Display for Call {
 
 impl fmt::Display for Answer {
     fn fmt<W: fmt::Write>(&self, f: &mut fmt::Formatter<W>) -> fmt::Result {
-        match *self {
+        match self {
             Answer::Markers(n) => write!(f, "{n} markers"),
             Answer::Changed(moved, reparented) => write!(f, "ok {moved} {reparented}"),
-            Answer::Row(depth, parent) => write!(f, "{depth} ({parent})"),
-            Answer::Path(length, markers) => write_markers(f, "path", length, &markers),
-            Answer::Cycle(length, markers) => write_markers(f, "cycle", length, &markers),
+            Answer::Row(row) => write!(f, "{} ({})", row.depth.mm, row.parent),
+            Answer::Path(markers) => write_markers(f, "path", markers),
+            Answer::Cycle(markers) => write_markers(f, "cycle", markers),
             Answer::Count(count) => write!(f, "{count}"),
-            Answer::Refused(code) => write!(f, "refused {code}"),
+            Answer::Refused(why) => write!(f, "refused {}", why.code()),
         }
     }
 }
@@ -67,20 +65,51 @@ impl fmt::Display for Answer {
 fn write_markers<W: fmt::Write>(
     f: &mut fmt::Formatter<W>,
     word: &str,
-    length: u16,
-    markers: &[u16; 4],
+    markers: &[u16],
 ) -> fmt::Result {
     write!(f, "{word}")?;
-    for marker in markers.iter().take(usize::from(length)) {
+    for marker in markers {
         write!(f, " {marker}")?;
     }
     Ok(())
 }
 
-fn refused(why: Refusal, buffer: [u16; 4]) -> Answer {
-    match why {
-        Refusal::Contradiction { length } => Answer::Cycle(length, buffer),
-        why => Answer::Refused(why.code()),
+fn front(buffer: [u16; 4], length: u16) -> ArrayVec<u16, 4> {
+    let mut markers = ArrayVec::from(buffer);
+    markers.truncate(usize::from(length));
+    markers
+}
+
+// Makes a call that may be refused.
+fn try_call<S: TieStore, M: Measure>(
+    solver: &mut Solver<S, M>,
+    call: Call,
+    buffer: &mut [u16; 4],
+) -> Result<Answer, Refusal>
+    requires suits { Suits S.TieStore M.Measure solver.old }
+    ensures suits { Suits S.TieStore M.Measure solver.new }
+{
+    match call {
+        Call::Open => Ok(Answer::Markers(solver.open(buffer)?)),
+        Call::Tie(from, to, mm) => {
+            let amount = Amount::millimetres(mm);
+            let (moved, reparented) = solver.tie(from, to, amount, buffer)?;
+            Ok(Answer::Changed(moved, reparented))
+        }
+        Call::Untie(from, to) => {
+            let (moved, reparented) = solver.untie(from, to)?;
+            Ok(Answer::Changed(moved, reparented))
+        }
+        Call::Depth(marker) => Ok(Answer::Row(solver.depth(marker)?)),
+        Call::Path(marker) => {
+            let length = solver.path(marker, buffer)?;
+            Ok(Answer::Path(front(*buffer, length)))
+        }
+        Call::ShortPath(marker) => {
+            let length = solver.path(marker, &mut buffer[..3])?;
+            Ok(Answer::Path(front(*buffer, length)))
+        }
+        Call::ChangeCount => Ok(Answer::Count(solver.change_count())),
     }
 }
 
@@ -89,32 +118,10 @@ pub fn make_call<S: TieStore, M: Measure>(solver: &mut Solver<S, M>, call: Call)
     requires suits { Suits S.TieStore M.Measure solver.old }
     ensures suits { Suits S.TieStore M.Measure solver.new }
 {
-    let mut buffer = [0u16; 4];
-    match call {
-        Call::Open => match solver.open(&mut buffer) {
-            Ok(n) => Answer::Markers(n),
-            Err(why) => refused(why, buffer),
-        },
-        Call::Tie(from, to, amount) => match solver.tie(from, to, mm(amount), &mut buffer) {
-            Ok((moved, reparented)) => Answer::Changed(moved, reparented),
-            Err(why) => refused(why, buffer),
-        },
-        Call::Untie(from, to) => match solver.untie(from, to) {
-            Ok((moved, reparented)) => Answer::Changed(moved, reparented),
-            Err(why) => refused(why, buffer),
-        },
-        Call::Depth(marker) => match solver.depth(marker) {
-            Ok(row) => Answer::Row(row.depth.mm, row.parent),
-            Err(why) => refused(why, buffer),
-        },
-        Call::Path(marker) => match solver.path(marker, &mut buffer) {
-            Ok(length) => Answer::Path(length, buffer),
-            Err(why) => refused(why, buffer),
-        },
-        Call::ShortPath(marker) => match solver.path(marker, &mut [0u16; 3]) {
-            Ok(length) => Answer::Path(length, buffer),
-            Err(why) => refused(why, buffer),
-        },
-        Call::ChangeCount => Answer::Count(solver.change_count()),
+    let mut buffer = [0; 4];
+    match try_call(solver, call, &mut buffer) {
+        Ok(answer) => answer,
+        Err(Refusal::Contradiction { length }) => Answer::Cycle(front(buffer, length)),
+        Err(why) => Answer::Refused(why),
     }
 }

@@ -1,50 +1,82 @@
 //! Layers taken off, bit 63, and the sizes that a store may have.
 
-use crate::call::{Call, make_call, mm};
-use crate::stores::{NO_TIE, THREE, TWO, list, matrix};
+use crate::call::{Call, make_call};
+use crate::stores::{THREE, TWO, list, matrix};
 use layers::{Locked, Screened};
 use matrix::TieMatrix;
-use measure::PlainDepth;
+use measure::{Amount, PlainDepth};
 use solver::Solver;
-use store::{Refusal, TieList, TieStore};
+use std::fmt;
+use store::{Refusal, TieList, TieRecord, TieStore};
 
-// The tie from one marker to another, in brackets if one of them is closed.
-fn tell_tie<S: TieStore>(rt: &HostRuntime, store: &S, a: u16, b: u16) -> anyhow::Result<()>
+// A pair of markers, whether one of them is closed, and the amount of its tie.
+#[derive(Clone, Copy)]
+struct Pair {
+    from: u16,
+    to: u16,
+    closed: bool,
+    amount: Option<Amount>,
+}
+
+// In brackets if a marker is closed.
+impl fmt::Display for Pair {
+    fn fmt<W: fmt::Write>(&self, f: &mut fmt::Formatter<W>) -> fmt::Result {
+        let (open, end) = if self.closed { ("[", "]") } else { (" ", "") };
+        write!(f, "{open}{} to {}, ", self.from, self.to)?;
+        match self.amount {
+            Some(amount) => write!(f, "{}{end}", amount.mm),
+            None => write!(f, "none{end}"),
+        }
+    }
+}
+
+fn read_pair<S: TieStore>(store: &S, from: u16, to: u16) -> Pair
     requires { S.TieStore.sound store.now }
 {
-    let closed = store.is_closed(a) || store.is_closed(b);
-    let open = if closed { "[" } else { " " };
-    let end = if closed { "]" } else { "" };
-    match store.amount(a, b) {
-        Some(amount) => {
-            let depth = amount.mm;
-            print!(rt; " {open}{a} to {b}, {depth}{end}")?;
-        }
-        None => print!(rt; " {open}{a} to {b}, none{end}")?,
+    Pair {
+        from,
+        to,
+        closed: store.is_closed(from) || store.is_closed(to),
+        amount: store.amount(from, to),
     }
-    Ok(())
+}
+
+// What a store says to a change.
+#[derive(Clone, Copy)]
+struct Said(Result<(), Refusal>);
+
+impl fmt::Display for Said {
+    fn fmt<W: fmt::Write>(&self, f: &mut fmt::Formatter<W>) -> fmt::Result {
+        match self.0 {
+            Ok(()) => write!(f, "ok"),
+            Err(why) => write!(f, "refused {}", why.code()),
+        }
+    }
+}
+
+// What a check answers: the number of a refusal, or 0.
+#[derive(Clone, Copy)]
+struct Checked(Result<(), Refusal>);
+
+impl fmt::Display for Checked {
+    fn fmt<W: fmt::Write>(&self, f: &mut fmt::Formatter<W>) -> fmt::Result {
+        match self.0 {
+            Ok(()) => write!(f, "0"),
+            Err(why) => write!(f, "{}", why.code()),
+        }
+    }
 }
 
 fn tell_store<S: TieStore>(rt: &HostRuntime, name: &str, store: &S) -> anyhow::Result<()>
     requires { S.TieStore.sound store.now }
 {
     let free = store.free();
-    print!(rt; "{name}: {free} free,")?;
-    tell_tie(rt, store, 0, 1)?;
-    tell_tie(rt, store, 1, 2)?;
-    tell_tie(rt, store, 1, 3)?;
-    println!(rt)?;
-    Ok(())
-}
-
-fn tell_answer(rt: &HostRuntime, name: &str, answer: Result<(), Refusal>) -> anyhow::Result<()> {
-    match answer {
-        Ok(()) => println!(rt; "{name}: ok")?,
-        Err(why) => {
-            let code = why.code();
-            println!(rt; "{name}: refused {code}")?;
-        }
-    }
+    println!(rt;
+        "{name}: {free} free, {} {} {}",
+        read_pair(store, 0, 1),
+        read_pair(store, 1, 2),
+        read_pair(store, 1, 3)
+    )?;
     Ok(())
 }
 
@@ -52,11 +84,26 @@ fn tell_answer(rt: &HostRuntime, name: &str, answer: Result<(), Refusal>) -> any
 fn tell_depth<S: TieStore + Drop>(rt: &HostRuntime, name: &str, store: S) -> anyhow::Result<()>
     requires { S.TieStore.sound store }
 {
-    let mut solver = Solver::new(store, PlainDepth, mm(5000), 0);
+    let mut solver = Solver::new(store, PlainDepth, Amount::millimetres(5000), 0);
     let opened = make_call(&mut solver, Call::Open);
     let depth = make_call(&mut solver, Call::Depth(3));
     println!(rt; "{name}: open {opened}, depth 3 {depth}")?;
     println!(rt)?;
+    Ok(())
+}
+
+fn put<S: TieStore>(
+    rt: &HostRuntime,
+    store: &mut S,
+    from: u16,
+    to: u16,
+    mm: i64,
+) -> anyhow::Result<()>
+    requires { S.TieStore.sound store.old }
+    ensures { S.TieStore.sound store.new }
+{
+    let said = Said(store.put(from, to, Amount::millimetres(mm)));
+    println!(rt; "put {from} to {to}, {mm}: {said}")?;
     Ok(())
 }
 
@@ -67,9 +114,9 @@ fn take_off<S: TieStore + Drop>(rt: &HostRuntime, name: &str, below: S) -> anyho
     tell_store(rt, name, &below)?;
     let mut screened = Screened::new(below, THREE);
     tell_store(rt, "screened", &screened)?;
-    tell_answer(rt, "put 1 to 2, 12", screened.put(1, 2, mm(12)))?;
-    tell_answer(rt, "put 1 to 3, 7", screened.put(1, 3, mm(7)))?;
-    tell_answer(rt, "clear 1 to 3", screened.clear(1, 3))?;
+    put(rt, &mut screened, 1, 2, 12)?;
+    put(rt, &mut screened, 1, 3, 7)?;
+    println!(rt; "clear 1 to 3: {}", Said(screened.clear(1, 3)))?;
     tell_store(rt, "screened", &screened)?;
     let below = screened.into_below();
     tell_store(rt, "taken off", &below)?;
@@ -81,7 +128,7 @@ pub fn tell_taken_off(rt: &HostRuntime) -> anyhow::Result<()> {
     let mut cells = [None; 16];
     let locked = Locked::new(matrix(&mut cells, 100), TWO);
     tell_depth(rt, "screened locked matrix", Screened::new(locked, THREE))?;
-    take_off(rt, "list", list(&mut [NO_TIE; 4], 100))?;
+    take_off(rt, "list", list(&mut [TieRecord::default(); 4], 100))?;
     take_off(rt, "matrix", matrix(&mut [None; 16], 100))?;
     take_off(
         rt,
@@ -94,32 +141,27 @@ pub fn tell_taken_off(rt: &HostRuntime) -> anyhow::Result<()> {
 pub fn tell_last_bit(rt: &HostRuntime) -> anyhow::Result<()> {
     let mut cells = [None; 4096];
     let mut matrix = TieMatrix::new(64, &mut cells);
-    tell_answer(rt, "put 0 to 62, 8", matrix.put(0, 62, mm(8)))?;
-    tell_answer(rt, "put 0 to 63, 7", matrix.put(0, 63, mm(7)))?;
+    put(rt, &mut matrix, 0, 62, 8)?;
+    put(rt, &mut matrix, 0, 63, 7)?;
     let mut screened = Screened::new(matrix, 1 << 63);
-    tell_tie(rt, &screened, 0, 62)?;
-    tell_tie(rt, &screened, 0, 63)?;
-    tell_tie(rt, &screened, 0, 64)?;
-    println!(rt)?;
-    tell_answer(rt, "put 62 to 0, 0", screened.put(62, 0, mm(0)))?;
-    tell_answer(rt, "put 63 to 0, 0", screened.put(63, 0, mm(0)))?;
-    tell_answer(rt, "put 64 to 0, 0", screened.put(64, 0, mm(0)))?;
+    println!(rt;
+        " {} {} {}",
+        read_pair(&screened, 0, 62),
+        read_pair(&screened, 0, 63),
+        read_pair(&screened, 0, 64)
+    )?;
+    put(rt, &mut screened, 62, 0, 0)?;
+    put(rt, &mut screened, 63, 0, 0)?;
+    put(rt, &mut screened, 64, 0, 0)?;
     let free = screened.free();
     println!(rt; "{free} free")?;
     println!(rt)?;
     Ok(())
 }
 
-fn code(answer: Result<(), Refusal>) -> u8 {
-    match answer {
-        Ok(()) => 0,
-        Err(why) => why.code(),
-    }
-}
-
 /// The sizes that a list and a matrix may have.
 pub fn tell_sizes(rt: &HostRuntime) -> anyhow::Result<()> {
-    let sizes: [(u16, usize); 8] = [
+    let sizes = [
         (1, 1),
         (2, 4),
         (4, 15),
@@ -130,8 +172,8 @@ pub fn tell_sizes(rt: &HostRuntime) -> anyhow::Result<()> {
         (2, 4097),
     ];
     for (n, records) in sizes {
-        let list = code(TieList::check(n, records));
-        let matrix = code(TieMatrix::check(n, records));
+        let list = Checked(TieList::check(n, records));
+        let matrix = Checked(TieMatrix::check(n, records));
         println!(rt; "{n} markers, {records} records: list {list}, matrix {matrix}")?;
     }
     Ok(())

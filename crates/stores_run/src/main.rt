@@ -12,8 +12,8 @@ fn run(rt: &HostRuntime) -> anyhow::Result<()> {
         "L: under a lock on marker 3. S: under a screen on marker 3. LS: under a lock on marker 2 over such a screen."
     )?;
     println!(rt)?;
-    stores::tell_calls(rt, 100, 24)?;
-    stores::tell_calls(rt, 20_000_001, 4)?;
+    stores::tell_calls(rt, 100, &stores::CALLS)?;
+    stores::tell_calls(rt, 20_000_001, &stores::CALLS[..4])?;
     edges::tell_taken_off(rt)?;
     edges::tell_last_bit(rt)?;
     edges::tell_sizes(rt)

@@ -5,18 +5,13 @@ ghost use Rattle.matrix.specs.Matrix.{MatrixSound};
 ghost use Rattle.solver.specs.Suits.{Suits};
 ghost use Rattle.store.specs.List.{ListSound};
 
-use crate::call::{Answer, Call, make_call, mm};
+use crate::call::{Answer, Call, make_call};
 use layers::{Locked, Screened};
 use matrix::TieMatrix;
 use measure::{Amount, Measure, PlainDepth};
 use solver::Solver;
+use std::alloc::{AllocError, Global};
 use store::{TieList, TieRecord, TieStore};
-
-pub const NO_TIE: TieRecord = TieRecord {
-    start: 0,
-    end: 0,
-    amount: Amount { mm: 0, marks: 0 },
-};
 
 // Marker 3, and every bit that stands for no marker.
 pub const THREE: u64 = 0xffff_ffff_ffff_fff8;
@@ -24,7 +19,7 @@ pub const THREE: u64 = 0xffff_ffff_ffff_fff8;
 // Marker 2.
 pub const TWO: u64 = 4;
 
-const CALLS: [Call; 24] = [
+pub const CALLS: [Call; 24] = [
     Call::Depth(1),
     Call::Open,
     Call::Open,
@@ -51,96 +46,124 @@ const CALLS: [Call; 24] = [
     Call::ChangeCount,
 ];
 
-const NAMES: [&str; 8] = [
-    "list",
-    "matrix",
-    "L list",
-    "L matrix",
-    "S list",
-    "S matrix",
-    "LS list",
-    "LS matrix",
-];
-
-// Puts two ties, one of them to marker 3.
-pub fn fill<S: TieStore>(store: &mut S, to_three: i64)
-    requires { S.TieStore.sound store.old }
-    ensures { S.TieStore.sound store.new }
+// The store with two ties more, one of them to marker 3.
+fn filled<S: TieStore>(mut store: S, to_three: i64) -> S
+    requires { S.TieStore.sound store }
+    ensures { S.TieStore.sound result }
 {
-    let _ = store.put(0, 1, mm(2000));
-    let _ = store.put(1, 3, mm(to_three));
+    let _ = store.put(0, 1, Amount::millimetres(2000));
+    let _ = store.put(1, 3, Amount::millimetres(to_three));
+    store
 }
 
 // A list of four markers with room for four ties, two of them taken.
 pub fn list(records: &mut [TieRecord; 4], to_three: i64) -> TieList<'_>
     ensures { ListSound result.n result.count result.records.now }
 {
-    let mut list = TieList::new(4, records);
-    fill(&mut list, to_three);
-    list
+    filled(TieList::new(4, records), to_three)
 }
 
 // A matrix of four markers with the same ties.
 pub fn matrix(cells: &mut [Option<Amount>; 16], to_three: i64) -> TieMatrix<'_>
     ensures { MatrixSound result.n result.ties result.cells.now }
 {
-    let mut matrix = TieMatrix::new(4, cells);
-    fill(&mut matrix, to_three);
-    matrix
+    filled(TieMatrix::new(4, cells), to_three)
 }
 
-// The answers to all calls.
-fn answers<S: TieStore, M: Measure>(solver: &mut Solver<S, M>) -> [Answer; 24]
-    requires suits { Suits S.TieStore M.Measure solver.old }
-{
-    let mut answers = [Answer::Count(0); 24];
-    for i in 0..24usize {
-        answers[i] = make_call(solver, CALLS[i]);
+// A call, and the answer of each store to it.
+#[derive(Drop)]
+struct Line {
+    call: Call,
+    answers: Vec<Answer>,
+}
+
+// A line for each call, a column for each store.
+#[derive(Drop)]
+struct Table {
+    names: Vec<&'static str>,
+    lines: Vec<Line>,
+}
+
+impl Table {
+    fn new(alloc: Global, calls: &[Call]) -> Result<Table, AllocError> {
+        let mut lines = Vec::new(alloc);
+        for call in calls {
+            lines.push(Line {
+                call: *call,
+                answers: Vec::new(alloc),
+            })?;
+        }
+        Ok(Table {
+            names: Vec::new(alloc),
+            lines,
+        })
     }
-    answers
-}
 
-fn run<S: TieStore + Drop>(store: S) -> [Answer; 24]
-    requires { S.TieStore.sound store }
-{
-    let mut solver = Solver::new(store, PlainDepth, mm(5000), 0);
-    answers(&mut solver)
-}
-
-// The answers of each store to all calls, with this amount from marker 1 to marker 3.
-fn columns(to_three: i64) -> [[Answer; 24]; 8] {
-    [
-        run(list(&mut [NO_TIE; 4], to_three)),
-        run(matrix(&mut [None; 16], to_three)),
-        run(Locked::new(list(&mut [NO_TIE; 4], to_three), THREE)),
-        run(Locked::new(matrix(&mut [None; 16], to_three), THREE)),
-        run(Screened::new(list(&mut [NO_TIE; 4], to_three), THREE)),
-        run(Screened::new(matrix(&mut [None; 16], to_three), THREE)),
-        run(Locked::new(Screened::new(list(&mut [NO_TIE; 4], to_three), THREE), TWO)),
-        run(Locked::new(Screened::new(matrix(&mut [None; 16], to_three), THREE), TWO)),
-    ]
-}
-
-/// A line for each of the first calls, a column for each store.
-pub fn tell_calls(rt: &HostRuntime, to_three: i64, calls: usize) -> anyhow::Result<()>
-    requires { calls ≤ 24 }
-{
-    let columns = columns(to_three);
-    println!(rt; "with the ties 0 to 1, 2000, and 1 to 3, {to_three}")?;
-    print!(rt; "{:<20}", "")?;
-    for name in NAMES {
-        print!(rt; "{name:>13}")?;
+    // Makes the calls over a store.
+    fn add<S: TieStore + Drop>(&mut self, name: &'static str, store: S) -> Result<(), AllocError>
+        requires { S.TieStore.sound store }
+    {
+        self.names.push(name)?;
+        let mut solver = Solver::new(store, PlainDepth, Amount::millimetres(5000), 0);
+        for line in &mut self.lines {
+            line.answers.push(make_call(&mut solver, line.call))?;
+        }
+        Ok(())
     }
-    println!(rt)?;
-    for i in 0..calls {
-        let call = format!(in rt.alloc(); "{}", CALLS[i])?;
-        print!(rt; "{call:<20}")?;
-        for column in &columns {
-            let text = format!(in rt.alloc(); "{}", column[i])?;
-            print!(rt; "{text:>13}")?;
+
+    fn tell(&self, rt: &HostRuntime) -> anyhow::Result<()> {
+        print!(rt; "{:<20}", "")?;
+        for name in &self.names {
+            print!(rt; "{name:>13}")?;
         }
         println!(rt)?;
+        for line in &self.lines {
+            let call = line.call.to_string(rt.alloc())?;
+            print!(rt; "{call:<20}")?;
+            for answer in &line.answers {
+                let answer = answer.to_string(rt.alloc())?;
+                print!(rt; "{answer:>13}")?;
+            }
+            println!(rt)?;
+        }
+        Ok(())
     }
+}
+
+/// The answers of each store to these calls, with this amount from marker 1 to marker 3.
+pub fn tell_calls(rt: &HostRuntime, to_three: i64, calls: &[Call]) -> anyhow::Result<()> {
+    let mut table = Table::new(rt.alloc(), calls)?;
+    table.add("list", list(&mut [TieRecord::default(); 4], to_three))?;
+    table.add("matrix", matrix(&mut [None; 16], to_three))?;
+    table.add(
+        "L list",
+        Locked::new(list(&mut [TieRecord::default(); 4], to_three), THREE),
+    )?;
+    table.add(
+        "L matrix",
+        Locked::new(matrix(&mut [None; 16], to_three), THREE),
+    )?;
+    table.add(
+        "S list",
+        Screened::new(list(&mut [TieRecord::default(); 4], to_three), THREE),
+    )?;
+    table.add(
+        "S matrix",
+        Screened::new(matrix(&mut [None; 16], to_three), THREE),
+    )?;
+    table.add(
+        "LS list",
+        Locked::new(
+            Screened::new(list(&mut [TieRecord::default(); 4], to_three), THREE),
+            TWO,
+        ),
+    )?;
+    table.add(
+        "LS matrix",
+        Locked::new(Screened::new(matrix(&mut [None; 16], to_three), THREE), TWO),
+    )?;
+    println!(rt; "with the ties 0 to 1, 2000, and 1 to 3, {to_three}")?;
+    table.tell(rt)?;
     println!(rt)?;
     Ok(())
 }
