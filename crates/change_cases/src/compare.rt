@@ -1,7 +1,5 @@
 //! What has to hold of a solver's rows after a change.
 
-ghost use Rattle.solver.specs.Suits.{Suits};
-
 use crate::plain::{Change, Well, index, number};
 use arrayvec::ArrayVec;
 use measure::{Amount, Measure};
@@ -18,9 +16,7 @@ pub const UNTOUCHED: u16 = 999;
 pub type Rows = [Row; 64];
 
 /// All rows of a solver.
-pub fn rows_of<S: TieStore, M: Measure>(solver: &Solver<S, M>, n: u16) -> Result<Rows, Fail>
-    requires suits { Suits S.TieStore M.Measure solver.now }
-{
+pub fn rows_of<S: TieStore, M: Measure>(solver: &Solver<S, M>, n: u16) -> Result<Rows, Fail> {
     let depth = Amount::default();
     let mut rows = [Row { depth, parent: 0 }; 64];
     for (m, row) in (0..n).zip(&mut rows) {
@@ -73,9 +69,7 @@ pub fn check_paths<S: TieStore, M: Measure>(
     solver: &Solver<S, M>,
     n: u16,
     rows: &Rows,
-) -> Result<(), Fail>
-    requires suits { Suits S.TieStore M.Measure solver.now }
-{
+) -> Result<(), Fail> {
     for m in 0..n {
         let mut buffer = [UNTOUCHED; 64];
         let length = solver.path(m, &mut buffer)?;

@@ -1,6 +1,6 @@
 //! Which refusal comes where several could.
 
-use law::Refusal;
+use law::{Counts, Refusal};
 use measure::{Amount, PlainDepth};
 use solver::Solver;
 use store::{TieList, TieRecord};
@@ -33,7 +33,10 @@ fn ties_refused(rt: HostRuntime) {
     );
     assert_eq!(rt;
         solver.tie(1, 2, Amount::millimetres(20_000_000), &mut cycle),
-        Ok((0, 0))
+        Ok(Counts {
+            moved: 0,
+            reparented: 0
+        })
     );
     assert_eq!(rt;
         solver.tie(2, 3, Amount::millimetres(-8001), &mut cycle),
@@ -61,9 +64,18 @@ fn untyings_refused(rt: HostRuntime) {
     assert_eq!(rt; solver.untie(0, 1), Err(Refusal::PairEmpty));
     assert_eq!(rt;
         solver.tie(0, 1, Amount::millimetres(5000), &mut cycle),
-        Ok((1, 0))
+        Ok(Counts {
+            moved: 1,
+            reparented: 0
+        })
     );
-    assert_eq!(rt; solver.untie(0, 1), Ok((1, 0)));
+    assert_eq!(rt;
+        solver.untie(0, 1),
+        Ok(Counts {
+            moved: 1,
+            reparented: 0
+        })
+    );
     assert_eq!(rt; solver.untie(0, 1), Err(Refusal::PairEmpty));
     assert_eq!(rt; solver.change_count(), 2);
 }

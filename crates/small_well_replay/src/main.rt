@@ -3,8 +3,6 @@
 
 #![tactic(auto)]
 
-ghost use Rattle.std.specs.Prelude.{◌≡◌};
-
 use law::{Answer, Call, Entry, Refusal};
 use layers::{Locked, Screened};
 use matrix::TieMatrix;
@@ -120,9 +118,7 @@ fn turn(call: Call) -> [Entry; 3] {
 }
 
 // Runs the log over a store, and tells it.
-fn run_over<S: TieStore + Drop>(rt: &HostRuntime, name: &str, store: S) -> anyhow::Result<()>
-    requires sound { S.TieStore.sound store }
-{
+fn run_over<S: TieStore + Drop>(rt: &HostRuntime, name: &str, store: S) -> anyhow::Result<()> {
     let mut turns = calls().map(turn);
     let total = Amount::millimetres(3_000_000);
     let Run { mut solver, token } = replay_new(

@@ -2,9 +2,7 @@
 
 #![tactic(auto)]
 
-ghost use Rattle.solver.specs.Suits.{Suits};
-
-use law::Refusal;
+use law::{Counts, Refusal};
 use measure::{Amount, Measure, PlainDepth};
 use solver::Solver;
 use std::fmt;
@@ -13,14 +11,17 @@ use store::{TieList, TieRecord, TieStore};
 // The answer to a change. The cycle of a contradiction stands at the front of the buffer.
 #[derive(Clone, Copy)]
 struct Told<'a> {
-    answer: Result<(u16, u16), Refusal>,
+    answer: Result<Counts, Refusal>,
     buffer: &'a [u16],
 }
 
 impl fmt::Display for Told<'_> {
     fn fmt<W: fmt::Write>(&self, f: &mut fmt::Formatter<W>) -> fmt::Result {
         match self.answer {
-            Ok((moved, reparented)) => write!(f, "{moved} moved and {reparented} reparented"),
+            Ok(Counts { moved, reparented }) => write!(
+                f,
+                "{moved} moved and {reparented} reparented"
+            ),
             Err(Refusal::Contradiction { length }) => {
                 write!(f, "contradiction")?;
                 for marker in self.buffer.iter().take(usize::from(length)) {
@@ -34,9 +35,10 @@ impl fmt::Display for Told<'_> {
 }
 
 // Ends a line with the row of each of the markers 1 and 2.
-fn tell_rows<S: TieStore, M: Measure>(rt: &HostRuntime, solver: &Solver<S, M>) -> anyhow::Result<()>
-    requires suits { Suits S.TieStore M.Measure solver.now }
-{
+fn tell_rows<S: TieStore, M: Measure>(
+    rt: &HostRuntime,
+    solver: &Solver<S, M>,
+) -> anyhow::Result<()> {
     for m in 1..3u16 {
         if let Ok(row) = solver.depth(m) {
             print!(rt; ", {} ({})", row.depth.mm, row.parent)?;
@@ -46,10 +48,10 @@ fn tell_rows<S: TieStore, M: Measure>(rt: &HostRuntime, solver: &Solver<S, M>) -
     Ok(())
 }
 
-fn open<S: TieStore, M: Measure>(rt: &HostRuntime, solver: &mut Solver<S, M>) -> anyhow::Result<()>
-    requires suits { Suits S.TieStore M.Measure solver.old }
-    ensures suits { Suits S.TieStore M.Measure solver.new }
-{
+fn open<S: TieStore, M: Measure>(
+    rt: &HostRuntime,
+    solver: &mut Solver<S, M>,
+) -> anyhow::Result<()> {
     match solver.open(&mut [0; 4]) {
         Ok(n) => print!(rt; "open: {n} markers")?,
         Err(why) => print!(rt; "open: refused {}", why.code())?,
@@ -63,10 +65,7 @@ fn tie<S: TieStore, M: Measure>(
     from: u16,
     to: u16,
     mm: i64,
-) -> anyhow::Result<()>
-    requires suits { Suits S.TieStore M.Measure solver.old }
-    ensures suits { Suits S.TieStore M.Measure solver.new }
-{
+) -> anyhow::Result<()> {
     let mut buffer = [0; 4];
     let answer = solver.tie(from, to, Amount::millimetres(mm), &mut buffer);
     let told = Told {
@@ -82,10 +81,7 @@ fn untie<S: TieStore, M: Measure>(
     solver: &mut Solver<S, M>,
     from: u16,
     to: u16,
-) -> anyhow::Result<()>
-    requires suits { Suits S.TieStore M.Measure solver.old }
-    ensures suits { Suits S.TieStore M.Measure solver.new }
-{
+) -> anyhow::Result<()> {
     let answer = solver.untie(from, to);
     let told = Told {
         answer,

@@ -1,9 +1,7 @@
 //! Calls of a solver, and their answers as text.
 
-ghost use Rattle.solver.specs.Suits.{Suits};
-
 use arrayvec::ArrayVec;
-use law::Refusal;
+use law::{Counts, Refusal};
 use measure::{Amount, Measure};
 use solver::Solver;
 use std::fmt;
@@ -25,8 +23,7 @@ pub enum Call {
 #[derive(Drop)]
 pub enum Answer {
     Markers(u16),
-    // markers with another depth, and with another parent
-    Changed(u16, u16),
+    Changed(Counts),
     Row(Row),
     Path(ArrayVec<u16, 4>),
     Cycle(ArrayVec<u16, 4>),
@@ -52,7 +49,7 @@ impl fmt::Display for Answer {
     fn fmt<W: fmt::Write>(&self, f: &mut fmt::Formatter<W>) -> fmt::Result {
         match self {
             Answer::Markers(n) => write!(f, "{n} markers"),
-            Answer::Changed(moved, reparented) => write!(f, "ok {moved} {reparented}"),
+            Answer::Changed(Counts { moved, reparented }) => write!(f, "ok {moved} {reparented}"),
             Answer::Row(row) => write!(f, "{} ({})", row.depth.mm, row.parent),
             Answer::Path(markers) => write_markers(f, "path", markers),
             Answer::Cycle(markers) => write_markers(f, "cycle", markers),
@@ -85,21 +82,14 @@ fn try_call<S: TieStore, M: Measure>(
     solver: &mut Solver<S, M>,
     call: Call,
     buffer: &mut [u16; 4],
-) -> Result<Answer, Refusal>
-    requires suits { Suits S.TieStore M.Measure solver.old }
-    ensures suits { Suits S.TieStore M.Measure solver.new }
-{
+) -> Result<Answer, Refusal> {
     match call {
         Call::Open => Ok(Answer::Markers(solver.open(buffer)?)),
         Call::Tie(from, to, mm) => {
             let amount = Amount::millimetres(mm);
-            let (moved, reparented) = solver.tie(from, to, amount, buffer)?;
-            Ok(Answer::Changed(moved, reparented))
+            Ok(Answer::Changed(solver.tie(from, to, amount, buffer)?))
         }
-        Call::Untie(from, to) => {
-            let (moved, reparented) = solver.untie(from, to)?;
-            Ok(Answer::Changed(moved, reparented))
-        }
+        Call::Untie(from, to) => Ok(Answer::Changed(solver.untie(from, to)?)),
         Call::Depth(marker) => Ok(Answer::Row(solver.depth(marker)?)),
         Call::Path(marker) => {
             let length = solver.path(marker, buffer)?;
@@ -114,10 +104,7 @@ fn try_call<S: TieStore, M: Measure>(
 }
 
 /// Makes a call.
-pub fn make_call<S: TieStore, M: Measure>(solver: &mut Solver<S, M>, call: Call) -> Answer
-    requires suits { Suits S.TieStore M.Measure solver.old }
-    ensures suits { Suits S.TieStore M.Measure solver.new }
-{
+pub fn make_call<S: TieStore, M: Measure>(solver: &mut Solver<S, M>, call: Call) -> Answer {
     let mut buffer = [0; 4];
     match try_call(solver, call, &mut buffer) {
         Ok(answer) => answer,

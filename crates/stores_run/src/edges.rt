@@ -30,9 +30,7 @@ impl fmt::Display for Pair {
     }
 }
 
-fn read_pair<S: TieStore>(store: &S, from: u16, to: u16) -> Pair
-    requires { S.TieStore.sound store.now }
-{
+fn read_pair<S: TieStore>(store: &S, from: u16, to: u16) -> Pair {
     Pair {
         from,
         to,
@@ -67,9 +65,7 @@ impl fmt::Display for Checked {
     }
 }
 
-fn tell_store<S: TieStore>(rt: &HostRuntime, name: &str, store: &S) -> anyhow::Result<()>
-    requires { S.TieStore.sound store.now }
-{
+fn tell_store<S: TieStore>(rt: &HostRuntime, name: &str, store: &S) -> anyhow::Result<()> {
     let free = store.free();
     println!(rt;
         "{name}: {free} free, {} {} {}",
@@ -81,9 +77,7 @@ fn tell_store<S: TieStore>(rt: &HostRuntime, name: &str, store: &S) -> anyhow::R
 }
 
 // The deepest depth of marker 3 over a store.
-fn tell_depth<S: TieStore + Drop>(rt: &HostRuntime, name: &str, store: S) -> anyhow::Result<()>
-    requires { S.TieStore.sound store }
-{
+fn tell_depth<S: TieStore + Drop>(rt: &HostRuntime, name: &str, store: S) -> anyhow::Result<()> {
     let mut solver = Solver::new(store, PlainDepth, Amount::millimetres(5000), 0);
     let opened = make_call(&mut solver, Call::Open);
     let depth = make_call(&mut solver, Call::Depth(3));
@@ -98,19 +92,14 @@ fn put<S: TieStore>(
     from: u16,
     to: u16,
     mm: i64,
-) -> anyhow::Result<()>
-    requires { S.TieStore.sound store.old }
-    ensures { S.TieStore.sound store.new }
-{
+) -> anyhow::Result<()> {
     let said = Said(store.put(from, to, Amount::millimetres(mm)));
     println!(rt; "put {from} to {to}, {mm}: {said}")?;
     Ok(())
 }
 
 // Puts a screen on marker 3 over the store, changes what can be changed, and takes it off again.
-fn take_off<S: TieStore + Drop>(rt: &HostRuntime, name: &str, below: S) -> anyhow::Result<()>
-    requires { S.TieStore.sound below }
-{
+fn take_off<S: TieStore + Drop>(rt: &HostRuntime, name: &str, below: S) -> anyhow::Result<()> {
     tell_store(rt, name, &below)?;
     let mut screened = Screened::new(below, THREE);
     tell_store(rt, "screened", &screened)?;

@@ -1,10 +1,5 @@
 //! The same calls on every store.
 
-ghost use Rattle.std.specs.Prelude.{◌≤◌};
-ghost use Rattle.matrix.specs.Matrix.{MatrixSound};
-ghost use Rattle.solver.specs.Suits.{Suits};
-ghost use Rattle.store.specs.List.{ListSound};
-
 use crate::call::{Answer, Call, make_call};
 use layers::{Locked, Screened};
 use matrix::TieMatrix;
@@ -47,26 +42,19 @@ pub const CALLS: [Call; 24] = [
 ];
 
 // The store with two ties more, one of them to marker 3.
-fn filled<S: TieStore>(mut store: S, to_three: i64) -> S
-    requires { S.TieStore.sound store }
-    ensures { S.TieStore.sound result }
-{
+fn filled<S: TieStore>(mut store: S, to_three: i64) -> S {
     let _ = store.put(0, 1, Amount::millimetres(2000));
     let _ = store.put(1, 3, Amount::millimetres(to_three));
     store
 }
 
 // A list of four markers with room for four ties, two of them taken.
-pub fn list(records: &mut [TieRecord; 4], to_three: i64) -> TieList<'_>
-    ensures { ListSound result.n result.count result.records.now }
-{
+pub fn list(records: &mut [TieRecord; 4], to_three: i64) -> TieList<'_> {
     filled(TieList::new(4, records), to_three)
 }
 
 // A matrix of four markers with the same ties.
-pub fn matrix(cells: &mut [Option<Amount>; 16], to_three: i64) -> TieMatrix<'_>
-    ensures { MatrixSound result.n result.ties result.cells.now }
-{
+pub fn matrix(cells: &mut [Option<Amount>; 16], to_three: i64) -> TieMatrix<'_> {
     filled(TieMatrix::new(4, cells), to_three)
 }
 
@@ -100,9 +88,7 @@ impl Table {
     }
 
     // Makes the calls over a store.
-    fn add<S: TieStore + Drop>(&mut self, name: &'static str, store: S) -> Result<(), AllocError>
-        requires { S.TieStore.sound store }
-    {
+    fn add<S: TieStore + Drop>(&mut self, name: &'static str, store: S) -> Result<(), AllocError> {
         self.names.push(name)?;
         let mut solver = Solver::new(store, PlainDepth, Amount::millimetres(5000), 0);
         for line in &mut self.lines {

@@ -3,11 +3,7 @@
 
 #![tactic(auto)]
 
-ghost use Rattle.std.specs.Prelude.{◌≡◌};
-ghost use Rattle.solver.specs.Suits.{Suits};
-ghost use Rattle.solver.specs.Trials.{CanRollBack};
-
-use law::Refusal;
+use law::{Counts, Refusal};
 use measure::{Amount, Measure, PlainDepth};
 use replay::{end_trial, keep_trial};
 use solver::Solver;
@@ -19,12 +15,7 @@ fn try_both<S: TieStore, M: Measure>(
     solver: &mut Solver<S, M>,
     first: Amount,
     then: Amount,
-) -> Result<(u16, u16), Refusal>
-    requires suits { Suits S.TieStore M.Measure solver.old }
-    requires trial { CanRollBack S.TieStore M.Measure solver.old }
-    ensures suits { Suits S.TieStore M.Measure solver.new }
-    ensures trial { CanRollBack S.TieStore M.Measure solver.new }
-{
+) -> Result<Counts, Refusal> {
     let mut cycle = [0; 4];
     solver.open(&mut cycle)?;
     let (_, kept) = solver.trial(0, 1, first, &mut cycle)?;
@@ -43,7 +34,7 @@ fn run(rt: &HostRuntime) -> anyhow::Result<()> {
     let mut solver = Solver::new(list, PlainDepth, Amount::millimetres(3_000_000), 7);
     let first = Amount::millimetres(2_000_000);
     match try_both(&mut solver, first, Amount::millimetres(1_000_000)) {
-        Ok((moved, reparented)) => println!(rt;
+        Ok(Counts { moved, reparented }) => println!(rt;
             "taken back: {moved} moved and {reparented} reparented"
         )?,
         Err(why) => println!(rt; "refused {}", why.code())?,
