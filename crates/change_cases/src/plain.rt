@@ -17,7 +17,7 @@ pub struct Change {
 #[derive(Clone, Copy)]
 pub struct Well {
     pub n: u16,
-    pub total: Amount,
+    total: Amount,
     pub least_mark: i32,
     room: usize,
     ties: [Option<Amount>; 4096],

@@ -118,10 +118,9 @@ fn run<S: TieStore, M: Measure>(
     let mut buffer = [UNTOUCHED; 64];
     assert_eq!(rt; solver.open(&mut buffer), Ok(well.n));
     let mut draw = Draw::new(seed);
-    let aims = draw.aims();
     let mut answers = Vec::new(rt.alloc());
     for i in 0..changes {
-        let change = draw.change(&well, &aims);
+        let change = draw.change(&well);
         answers.push(step(rt, solver, &mut well, change)?)?;
     }
     Ok(answers)

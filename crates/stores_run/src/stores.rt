@@ -1,14 +1,12 @@
 //! The same calls on every store.
 
-ghost use Rattle.std.specs.Prelude.{◌≤◌};
 ghost use Rattle.matrix.specs.Matrix.{MatrixSound};
-ghost use Rattle.solver.specs.Suits.{Suits};
 ghost use Rattle.store.specs.List.{ListSound};
 
 use crate::call::{Answer, Call, make_call};
 use layers::{Locked, Screened};
 use matrix::TieMatrix;
-use measure::{Amount, Measure, PlainDepth};
+use measure::{Amount, PlainDepth};
 use solver::Solver;
 use std::alloc::{AllocError, Global};
 use store::{TieList, TieRecord, TieStore};
