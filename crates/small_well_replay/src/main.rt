@@ -3,8 +3,6 @@
 
 #![tactic(auto)]
 
-ghost use Rattle.std.specs.Prelude.{◌≡◌};
-
 use law::{Answer, Call, Entry, Refusal};
 use layers::{Locked, Screened};
 use matrix::TieMatrix;

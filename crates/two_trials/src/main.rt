@@ -3,7 +3,6 @@
 
 #![tactic(auto)]
 
-ghost use Rattle.std.specs.Prelude.{◌≡◌};
 ghost use Rattle.solver.specs.Suits.{Suits};
 ghost use Rattle.solver.specs.Trials.{CanRollBack};
 
