@@ -30,6 +30,7 @@ pub fn number(amount: Amount) -> i64 {
         .saturating_add(i64::from(amount.marks))
 }
 
+/// The place of a marker's row in a table.
 pub fn index(marker: u16) -> usize
     ensures { result < 64 }
 {
