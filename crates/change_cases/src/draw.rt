@@ -4,47 +4,57 @@ use crate::plain::{Change, Well, index};
 use measure::Amount;
 
 #[derive(Drop)]
-pub struct Draw {
+struct Generator {
     state: u64,
 }
 
-impl Draw {
-    pub fn new(seed: u64) -> Draw {
-        Draw { state: seed }
-    }
-
-    /// A number below `n`.
-    pub fn below(&mut self, n: u16) -> u16 {
+impl Generator {
+    // A number below `n`.
+    fn below(&mut self, n: u16) -> u16 {
         self.state = self
             .state
             .wrapping_mul(6_364_136_223_846_793_005)
             .wrapping_add(1_442_695_040_888_963_407);
         u16::try_from((self.state >> 33) % u64::from(n.max(1))).unwrap_or(0)
     }
+}
 
-    /// Depths that most of the ties to be drawn fit, in whole metres from 0 to 8.
-    pub fn aims(&mut self) -> [i64; 64] {
+/// Draws changes. Most of the ties fit the depths that it aims at.
+#[derive(Drop)]
+pub struct Draw {
+    numbers: Generator,
+    aims: [i64; 64],
+}
+
+impl Draw {
+    /// Aims at depths in whole metres, from 0 to 8.
+    pub fn new(seed: u64) -> Draw {
+        let mut numbers = Generator { state: seed };
         let mut aims = [0; 64];
         for aim in aims.iter_mut().skip(1) {
-            *aim = 1000 * i64::from(self.below(9));
+            *aim = 1000 * i64::from(numbers.below(9));
         }
-        aims
+        Draw { numbers, aims }
     }
 
     // Millimetres that a tie has to spare: often none, so that many paths are equally short, and at times too few.
     fn slack(&mut self) -> i64 {
-        match self.below(8) {
+        match self.numbers.below(8) {
             0..=1 => 0,
-            2..=5 => 1000 * (1 + i64::from(self.below(4))),
-            _ => -500 * i64::from(self.below(5)),
+            2..=5 => 1000 * (1 + i64::from(self.numbers.below(4))),
+            _ => -500 * i64::from(self.numbers.below(5)),
         }
     }
 
     fn amount(&mut self, least_mark: i32, difference: i64) -> Amount {
-        if self.below(40) == 0 {
+        if self.numbers.below(40) == 0 {
             return Amount::millimetres(20_000_001);
         }
-        let marks = if self.below(4) == 0 { least_mark } else { 0 };
+        let marks = if self.numbers.below(4) == 0 {
+            least_mark
+        } else {
+            0
+        };
         let mm = difference.saturating_add(self.slack());
         Amount { mm, marks }
     }
@@ -52,10 +62,10 @@ impl Draw {
     // Two markers that lie near each other by number, or the datum and another: few enough pairs that they recur. At times one
     // marker twice, or a marker that is not there.
     fn pair(&mut self, n: u16) -> (u16, u16) {
-        let a = self.below(n);
-        let near = a.saturating_add(1).saturating_add(self.below(3)) % n.max(1);
-        let b = if self.below(4) == 0 { 0 } else { near };
-        match self.below(40) {
+        let a = self.numbers.below(n);
+        let near = a.saturating_add(1).saturating_add(self.numbers.below(3)) % n.max(1);
+        let b = if self.numbers.below(4) == 0 { 0 } else { near };
+        match self.numbers.below(40) {
             0 => (a, n),
             k if k % 2 == 0 => (a, b),
             _ => (b, a),
@@ -63,13 +73,13 @@ impl Draw {
     }
 
     /// A tie to be put, replaced or taken away.
-    pub fn change(&mut self, well: &Well, aims: &[i64; 64]) -> Change {
+    pub fn change(&mut self, well: &Well) -> Change {
         let (from, to) = self.pair(well.n);
         let odds = if well.tie(from, to).is_some() { 2 } else { 30 };
-        let amount = if self.below(odds) == 0 {
+        let amount = if self.numbers.below(odds) == 0 {
             None
         } else {
-            let difference = aims[index(to)].saturating_sub(aims[index(from)]);
+            let difference = self.aims[index(to)].saturating_sub(self.aims[index(from)]);
             Some(self.amount(well.least_mark, difference))
         };
         Change { from, to, amount }

@@ -17,7 +17,7 @@ pub struct Change {
 #[derive(Clone, Copy)]
 pub struct Well {
     pub n: u16,
-    pub total: Amount,
+    total: Amount,
     pub least_mark: i32,
     room: usize,
     ties: [Option<Amount>; 4096],
@@ -30,6 +30,7 @@ pub fn number(amount: Amount) -> i64 {
         .saturating_add(i64::from(amount.marks))
 }
 
+/// The place of a marker's row in a table.
 pub fn index(marker: u16) -> usize
     ensures { result < 64 }
 {

@@ -3,7 +3,7 @@
 use crate::call::{Answer, Call, make_call};
 use layers::{Locked, Screened};
 use matrix::TieMatrix;
-use measure::{Amount, Measure, PlainDepth};
+use measure::{Amount, PlainDepth};
 use solver::Solver;
 use std::alloc::{AllocError, Global};
 use store::{TieList, TieRecord, TieStore};
