@@ -1,8 +1,8 @@
 use Rattle.std.proofs.Common.{◌<◌, ◌≤◌, List, length, subst, arith, take_all}
 use Rattle.law.specs.declared.call.Entry.{Entry}
 use Rattle.solver.specs.Model.{model}
-use Rattle.replay.specs.Replays.{log_of, Reached, Replayed}
-use Rattle.replay.proofs.Replaying.{calls_all, calls_more, reached_more, reached_ran, replayed_more, rest_more}
+use Rattle.replay.specs.Replays.{log_of, Reached}
+use Rattle.replay.proofs.Replaying.{calls_more, reached_more, reached_ran, replayed_more, rest_more}
 use Rattle.replay.proofs.replay.Goals as goal
 
 pub loop-entry-preserved : goal.loop-entry-preserved
