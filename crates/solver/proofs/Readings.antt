@@ -1,16 +1,16 @@
 -- Readings of a solver that is open. Assumes nothing.
-use Rattle.std.proofs.Common.{◌≡◌, ℕ, ◌<◌, ◌≤◌, false, not, ltb, List, [], ◌∷◌, length, None, Option, refl, ap, ◌∙◌, subst, inl, inr, arith}
-use Rattle.std.proofs.lemmas.Bool.{le-ltb, lt-ltb, ltb-true}
+use Rattle.std.proofs.Common.{◌≡◌, ℕ, ◌<◌, false, not, ltb, [], ◌∷◌, None, Option, ap, ◌∙◌, subst, inl, inr, arith}
+use Rattle.std.proofs.lemmas.Bool.{lt-ltb}
 use Rattle.measure.specs.declared.Measure as measure
-use Rattle.law.specs.Calls.{Answered, Model, Outcome, over_front, path}
+use Rattle.law.specs.Calls.{Answered, Model, Outcome}
 use Rattle.law.specs.Refusals.{first_refusal, is_new, when}
 use Rattle.law.specs.declared.call.Answer.{Answer}
 use Rattle.law.specs.declared.call.Answer.TheVariants as answer
 use Rattle.law.specs.declared.call.Call.TheVariants as call
 use Rattle.law.specs.declared.call.Refusal.{Refusal}
-use Rattle.law.specs.declared.call.Refusal.TheVariants.{NotOpen, UnknownMarker, ShortBuffer}
+use Rattle.law.specs.declared.call.Refusal.TheVariants.{NotOpen, UnknownMarker}
 use Rattle.table.specs.declared.row.Row.{Row}
-use Rattle.law.proofs.Answers.{accepted, skips}
+use Rattle.law.proofs.Answers.{skips}
 
 module _ {M : Type 0} (μ : measure.Ghosts M) (m : Model) (k : ℕ) (opened : is_new m.standing.state ≡ false) (known : k < m.standing.count) where
   depth_passes : first_refusal μ m.standing (call.Depth k) ≡ None
