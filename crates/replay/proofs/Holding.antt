@@ -1,27 +1,22 @@
 -- Who has the token in hand while a trial is out. Assumes nothing.
-use Rattle.std.proofs.Common.{◌≡◌, ℕ, Bool, true, false, not, ◌&&◌, eqb, List, [], Some, None, Ok, Err, Option, Result, sym, refl, ap, ◌∙◌, subst, inl, inr, true≢false, arith}
-use Rattle.std.proofs.lemmas.Bool.{and_from, eq-eqb}
+use Rattle.std.proofs.Common.{◌≡◌, ℕ, true, false, not, List, Some, None, Option, sym, refl, ap, ◌∙◌, inl, inr, true≢false, arith}
 use Rattle.measure.specs.declared.Amount.{Amount}
 use Rattle.measure.specs.declared.Measure as measure
 use Rattle.law.specs.declared.call.Answer.{Answer}
 use Rattle.law.specs.declared.call.Answer.TheVariants.{Refused, Changed}
 use Rattle.law.specs.declared.call.Call.{Call}
 use Rattle.law.specs.declared.call.Call.TheVariants as call
-use Rattle.law.specs.declared.call.Counts.{Counts}
 use Rattle.law.specs.declared.call.Refusal.{Refusal}
-use Rattle.law.specs.declared.call.Refusal.TheVariants.{NotNew, WrongToken}
+use Rattle.law.specs.declared.call.Refusal.TheVariants.{NotNew}
 use Rattle.law.specs.declared.call.State.{State}
 use Rattle.law.specs.declared.call.State.TheVariants as state
 use Rattle.law.specs.Calls.{Answered, Model, Outcome}
 use Rattle.law.specs.Refusals.{first_refusal, is_new, on_trial}
 use Rattle.law.specs.Standing.{rolled_back as rolled, Standing, took}
-use Rattle.law.proofs.Answers.{skips}
 use Rattle.solver.proofs.Openings.{passed}
 use Rattle.solver.proofs.Ties.{not-false}
-use Rattle.solver.specs.declared.token.Returned.{Returned}
 use Rattle.solver.specs.declared.token.TrialToken.{TrialToken}
-use Rattle.solver.specs.Tokens.{ComesBack, committed, rolled_back}
-use Rattle.replay.specs.Replays.{Holds, token_back}
+use Rattle.replay.specs.Replays.{Holds}
 
 -- the solver's number, and whether a trial is out, are as they were
 pub record Same (m m' : Model) : Type 0 where
@@ -108,65 +103,3 @@ module _ {M : Type 0} (μ : measure.Ghosts M) (m m' : Model) where
       by (Some r) (e, _, _) = absurd (let q : ◌≡◌ {A = ℕ} 0 1 = cc in omega arith)
       by None (inl y) = let e = y.answered in absurd (let q : ◌≡◌ {A = ℕ} 0 1 = cc in omega arith)
       by None (inr y) = (ap (λ (s : Standing). on_trial s.state) y.standing, own ∙ sym (ap (λ (s : Standing). s.number) y.standing))
-
-  commit_ends : (n : ℕ) (s : Standing) → on_trial (took (call.Commit n) s).state ≡ false
-  commit_ends n s = refl
-
-  pub commit_holds : (n : ℕ) (token : TrialToken) (r : Result (Unit {0}) Returned) → Answered μ m (call.Commit n) [] (committed r) [] m' → ComesBack token r → Holds m (Some token) → Holds m' (token_back r)
-  commit_holds n token (Ok _) x back h = by (first_refusal μ m.standing (call.Commit n)) x.outcome
-    where
-      by : (o : Option Refusal) → Outcome μ o m (call.Commit n) [] (committed (Ok tt)) [] m' → on_trial m'.standing.state ≡ false
-      by (Some r) (e, _, _) = absurd (let q : ◌≡◌ {A = ℕ} 0 1 = cc in omega arith)
-      by None (inl y) = absurd y.closes
-      by None (inr y) = ap (λ (s : Standing). on_trial s.state) y.standing
-  commit_holds n token (Err why) x back h =
-      subst (λ (t : TrialToken). Holds m' (Some t)) (sym back) (holds_same m m' (Some token) (refused_by (call.Commit n) [] [] why.why last (first_refusal μ m.standing (call.Commit n)) x.outcome) h)
-    where
-      last : (r : Answer) → r ≡ Refused why.why → Outcome μ None m (call.Commit n) [] r [] m' → Same m m'
-      last r e (inl y) = same_model m m' y.same
-      last r e (inr y) = let z = sym y.answered ∙ e in absurd (let q : ◌≡◌ {A = ℕ} 0 1 = cc in omega arith)
-
-  roll_back_ends : (s : Standing) → on_trial s.state ≡ true → on_trial (took (call.RollBack 0) s).state ≡ false
-  roll_back_ends s t = by s.state t
-    where
-      by : (x : State) → on_trial x ≡ true → on_trial (rolled s x).state ≡ false
-      by state.New e = absurd (true≢false (sym e))
-      by state.Open e = absurd (true≢false (sym e))
-      by (state.OnTrial a b w) e = refl
-
-  pub roll_back_holds : (n : ℕ) (token : TrialToken) (r : Result Counts Returned) → Answered μ m (call.RollBack n) [] (rolled_back r) [] m' → ComesBack token r → Holds m (Some token) → Holds m' (token_back r)
-  roll_back_holds n token (Ok counts) x back h = by (first_refusal μ m.standing (call.RollBack n)) x.outcome
-    where
-      by : (o : Option Refusal) → Outcome μ o m (call.RollBack n) [] (rolled_back (Ok counts)) [] m' → on_trial m'.standing.state ≡ false
-      by (Some r) (e, _, _) = absurd (let q : ◌≡◌ {A = ℕ} 0 1 = cc in omega arith)
-      by None (inl y) = absurd y.closes
-      by None (inr y) = ap (λ (s : Standing). on_trial s.state) y.standing ∙ roll_back_ends m.standing h.0
-  roll_back_holds n token (Err why) x back h =
-      subst (λ (t : TrialToken). Holds m' (Some t)) (sym back) (holds_same m m' (Some token) (refused_by (call.RollBack n) [] [] why.why last (first_refusal μ m.standing (call.RollBack n)) x.outcome) h)
-    where
-      last : (r : Answer) → r ≡ Refused why.why → Outcome μ None m (call.RollBack n) [] r [] m' → Same m m'
-      last r e (inl y) = same_model m m' y.same
-      last r e (inr y) = let z = sym y.answered ∙ e in absurd (let q : ◌≡◌ {A = ℕ} 0 1 = cc in omega arith)
-
-  -- the token of the trial that is out passes the check of both calls
-  own_passes : (token : TrialToken) → Holds m (Some token) → (not (on_trial m.standing.state && eqb token.number m.standing.number)) ≡ false
-  own_passes token h = ap not (and_from (on_trial m.standing.state) (eqb token.number m.standing.number) h.0 (eq-eqb token.number m.standing.number h.1))
-
-  abbrev check : ℕ → Bool
-  check n = not (on_trial m.standing.state && eqb n m.standing.number)
-
-  pub own_rolls_back : (token : TrialToken) (why : Refusal) → Answered μ m (call.RollBack token.number) [] (Refused why) [] m' → Holds m (Some token) → ⊥
-  own_rolls_back token why x h =
-      by (subst (λ (o : Option Refusal). Outcome μ o m (call.RollBack token.number) [] (Refused why) [] m') (skips (check token.number) WrongToken [] (own_passes token h)) x.outcome)
-    where
-      by : Outcome μ None m (call.RollBack token.number) [] (Refused why) [] m' → ⊥
-      by (inl y) = y.closes
-      by (inr y) = let e = y.answered in let q : ◌≡◌ {A = ℕ} 0 1 = cc in omega arith
-
-  pub own_commits : (token : TrialToken) (why : Refusal) → Answered μ m (call.Commit token.number) [] (Refused why) [] m' → Holds m (Some token) → ⊥
-  own_commits token why x h =
-      by (subst (λ (o : Option Refusal). Outcome μ o m (call.Commit token.number) [] (Refused why) [] m') (skips (check token.number) WrongToken [] (own_passes token h)) x.outcome)
-    where
-      by : Outcome μ None m (call.Commit token.number) [] (Refused why) [] m' → ⊥
-      by (inl y) = y.closes
-      by (inr y) = let e = y.answered in let q : ◌≡◌ {A = ℕ} 0 1 = cc in omega arith

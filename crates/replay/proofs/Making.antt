@@ -11,12 +11,6 @@ taken [] xs = refl
 taken (m ∷ ms) xs = ap (λ z. m ∷ z) (taken ms xs)
 
 module _ {M : Type 0} (μ : measure.Ghosts M) (m m' : Model) where
-  -- a call that is lent nothing
-  pub bare : (c : Call) (a a' : Answer) (b : List ℕ) → a ≡ a' → room c ≡ 0 → Answered μ m c [] a' [] m' → Made μ m c a b m'
-  bare c a a' b f z h =
-      subst (λ (x : Answer). Made μ m c x b m') (sym f)
-      (record { before = []; answered = subst (λ (x : ℕ). Answered μ m c [] a' (take x b) m') (sym z) h })
-
   -- a call that is lent the front of k places
   pub part : (make : ℕ → Call) (a a' : Answer) (k : ℕ) (sub after rest : List ℕ) → a ≡ a' → ((j : ℕ) → room (make j) ≡ j) → length sub ≡ k → length after ≡ length sub
       → Answered μ m (make (length sub)) sub a' after m' → Made μ m (make k) a (after ++ rest) m'
@@ -27,7 +21,3 @@ module _ {M : Type 0} (μ : measure.Ghosts M) (m m' : Model) where
         answered = subst (λ (x : List ℕ). Answered μ m (make k) sub a' x m') (sym (ap (λ (j : ℕ). take j (after ++ rest)) (is-room k ∙ sym l ∙ sym l') ∙ taken after rest))
             (subst (λ (x : ℕ). Answered μ m (make x) sub a' after m') l h);
       })
-
-  -- the same call by another name
-  pub as_call : (c c' : Call) (a : Answer) (b : List ℕ) → c ≡ c' → Made μ m c' a b m' → Made μ m c a b m'
-  as_call c c' a b e h = subst (λ (k : Call). Made μ m k a b m') (sym e) h

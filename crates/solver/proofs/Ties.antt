@@ -122,12 +122,6 @@ module _ (m : StoreMeaning) (a b : ℕ) (none : untie_refusal m a b ≡ None) wh
   set_taken None = store_passes m a b (when (not (is_some (m.tie a b))) PairEmpty ∷ []) none _ _ _ _ ∙ cond-true (is_some (m.tie a b)) _ _ tied
   set_taken (Some w) = store_passes m a b (when (not (is_some (m.tie a b))) PairEmpty ∷ []) none _ _ _ _ ∙ cond-true (is_some (m.tie a b)) _ _ tied
 
-  pub pair_start : a < m.count
-  pair_start = start_known m a b (when (not (is_some (m.tie a b))) PairEmpty ∷ []) none
-
-  pub pair_end : b < m.count
-  pair_end = end_known m a b (when (not (is_some (m.tie a b))) PairEmpty ∷ []) none
-
 -- a change that has settled is what an accepted call asks for
 pub settled_answered : {M : Type 0} (μ : MeasureGhosts M) (m m' : Model) (a b : ℕ) (o : Option Amount) (r : Counts) → Settled μ m a b o r m'
     → (c : Call) (before : List ℕ) → first_refusal μ m.standing c ≡ None → kind c ≡ change → took c m.standing ≡ put m.standing a b o state.Open

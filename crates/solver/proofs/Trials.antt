@@ -16,7 +16,7 @@ use Rattle.law.specs.Standing.{bounds_of, put, rolled_back, Standing, Ties, turn
 use Rattle.law.specs.declared.call.Answer.TheVariants as answer
 use Rattle.law.specs.declared.call.Call.TheVariants as call
 use Rattle.law.specs.declared.call.Refusal.{Refusal}
-use Rattle.law.specs.declared.call.Refusal.TheVariants.{NotOpen, TrialOut, WrongToken}
+use Rattle.law.specs.declared.call.Refusal.TheVariants.{NotOpen, WrongToken}
 use Rattle.law.specs.declared.call.Counts.{Counts}
 use Rattle.law.specs.declared.call.State.TheVariants as state
 use Rattle.law.proofs.Answers.{skips}

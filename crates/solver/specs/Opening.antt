@@ -1,17 +1,13 @@
 -- What opening checks, and what it finds. Assumes nothing.
-use Rattle.std.specs.Prelude.{◌≡◌, ℕ, not, ◌||◌, List, [], ◌∷◌, length, Some, None, Ok, Err, Option, Result, nat_lt}
+use Rattle.std.specs.Prelude.{◌≡◌, ℕ, List, length, Some, None, Ok, Err, Option, Result}
 use Rattle.measure.specs.declared.Amount.{Amount}
 use Rattle.measure.specs.declared.Measure.{Ghosts as MeasureGhosts}
 use Rattle.measure.specs.Group.{OrderedGroup, Lt}
-use Rattle.store.specs.Meaning.{StoreMeaning}
 use Rattle.graph.specs.Graph.{Cycle, Weight}
 use Rattle.table.specs.declared.table.DepthTable.{DepthTable}
-use Rattle.law.specs.Amounts.{at_most}
 use Rattle.law.specs.Calls.{over_front}
-use Rattle.law.specs.Refusals.{first, first_bad_tie, when}
 use Rattle.law.specs.Standing.{bounds_of, Ties}
 use Rattle.law.specs.declared.call.Refusal.{Refusal}
-use Rattle.law.specs.declared.call.Refusal.TheVariants.{BadAmount, ShortBuffer}
 use Rattle.solver.specs.Suits.{TableSuits}
 
 abbrev pub as_result : Option Refusal → Result (Unit {0}) Refusal

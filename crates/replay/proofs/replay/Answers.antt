@@ -1,8 +1,8 @@
 use Rattle.std.proofs.Common.{◌<◌, ◌≤◌, List, length, subst, arith, take_all}
 use Rattle.law.specs.declared.call.Entry.{Entry}
 use Rattle.solver.specs.Model.{model}
-use Rattle.replay.specs.Replays.{log_of, Reached, Replayed}
-use Rattle.replay.proofs.Replaying.{calls_all, calls_more, reached_more, reached_ran, replayed_more, rest_more}
+use Rattle.replay.specs.Replays.{log_of, Reached}
+use Rattle.replay.proofs.Replaying.{calls_more, reached_more, reached_ran, replayed_more, rest_more}
 use Rattle.replay.proofs.replay.Goals as goal
 
 pub loop-entry-preserved : goal.loop-entry-preserved
@@ -18,17 +18,10 @@ loop-entry-preserved g c =
       rest_more l.entries _ l.entry-index _ l.invariant.4,
     )
 
-pub returns : goal.returns
-returns g c =
-    let μ = g.M.Measure in
+pub returns-clause-ran : goal.returns-clause-ran
+returns-clause-ran g c =
     let l = c.loop-entry in
     let m = model g.S.TieStore c.args.solver.now in
     let m' = model g.S.TieStore c.loop-entry.solver in
     let past : length c.loop-entry.entries ≤ c.loop-entry.entry-index = omega arith in
-    let all = take_all c.loop-entry.entry-index c.loop-entry.entries past in
-    record {
-      holds = l.invariant.0;
-      calls = calls_all l.entries c.args.entries.now l.entry-index past l.invariant.3 l.invariant.4;
-      ran = reached_ran μ m _ m' (subst (λ (es : List Entry). Reached μ m (log_of es) m') all l.invariant.1);
-      lawful = subst (λ (es : List Entry). Replayed μ m es m') all l.invariant.2;
-    }
+    reached_ran g.M.Measure m _ m' (subst (λ (es : List Entry). Reached g.M.Measure m (log_of es) m') (take_all l.entry-index l.entries past) l.invariant.1)

@@ -1,14 +1,12 @@
 use Rattle.std.proofs.Common.{◌≡◌, length, None, Ok, sym, ◌∙◌, rules}
-use Rattle.std.proofs.lemmas.Result.{err_from_is_err_and}
 use Rattle.law.proofs.Tellings.{goes_on}
 use Rattle.law.specs.declared.call.Call.TheVariants as call
 use Rattle.law.specs.Refusals.{first_refusal}
 use Rattle.solver.specs.Opening.{Solves}
-use Rattle.law.specs.declared.call.Answer.TheVariants as answer
 use Rattle.solver.specs.Inside.{held}
 use Rattle.solver.specs.Model.{model}
 use Rattle.solver.specs.Trials.{Upheld}
-use Rattle.solver.proofs.Openings.{above_zero, all_admitted, bounds_sound, contradiction_answered, enough_room, none_of, opened_answered, opened_upheld, opening_passed}
+use Rattle.solver.proofs.Openings.{above_zero, all_admitted, bounds_sound, enough_room, none_of, opened_answered, opened_upheld, opening_passed}
 use Rattle.solver.proofs.solver.Solver.open.Goals as goal
 
 pub solve-requires : goal.solve-requires

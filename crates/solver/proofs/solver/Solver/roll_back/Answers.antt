@@ -1,6 +1,4 @@
-use Rattle.std.proofs.Common.{sym, ◌∙◌}
 use Rattle.table.specs.Climb.{up}
-use Rattle.law.proofs.Tellings.{goes_on}
 use Rattle.solver.specs.Inside.{held}
 use Rattle.solver.proofs.Trials.{roll_back_answered, roll_back_fits}
 use Rattle.solver.proofs.solver.Solver.roll_back.Goals as goal

@@ -1,19 +1,10 @@
-use Rattle.std.proofs.Common.{Ok, sym, ap, subst}
+use Rattle.std.proofs.Common.{Ok, sym, subst}
 use Rattle.store.specs.Meaning.{set_tie}
-use Rattle.law.specs.Refusals.{is_new}
 use Rattle.solver.specs.Changing.{LeadsTo}
 use Rattle.solver.specs.Held.{Held}
 use Rattle.solver.specs.Inside.{held}
-use Rattle.solver.proofs.Settling.{settled, step_small}
+use Rattle.solver.proofs.Settling.{settled}
 use Rattle.solver.proofs.solver.Solver.settle.Goals as goal
-
-pub next_table-requires : goal.next_table-requires
-next_table-requires g c = record {
-  opened = ap is_new c.requires.opened;
-  start = c.requires.start;
-  end = c.requires.end;
-  small = step_small g.M.Measure c.args.amount c.requires.admitted;
-}
 
 pub invariant_of-self : goal.invariant_of-self
 invariant_of-self g c =

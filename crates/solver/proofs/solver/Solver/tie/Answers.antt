@@ -1,39 +1,18 @@
-use Rattle.std.proofs.Common.{◌≡◌, length, Some, Ok, sym, refl, ap, ◌∙◌, subst, rules}
+use Rattle.std.proofs.Common.{◌≡◌, length, Some, Ok, sym, refl, ◌∙◌, rules}
 use Rattle.store.specs.Meaning.{set_tie}
 use Rattle.table.specs.Climb.{up}
 use Rattle.update.proofs.Cycles.{cycle_leads}
 use Rattle.law.proofs.Answers.{refused}
 use Rattle.law.proofs.Tellings.{goes_on}
-use Rattle.law.specs.Calls.{Answered}
-use Rattle.law.specs.Standing.{bounds_of, put}
+use Rattle.law.specs.Standing.{bounds_of}
 use Rattle.law.specs.declared.call.Answer.TheVariants as answer
 use Rattle.law.specs.declared.call.Call.TheVariants as call
-use Rattle.law.specs.declared.call.Refusal.TheVariants.{Contradiction}
 use Rattle.solver.proofs.Openings.{none_of, some_of}
-use Rattle.solver.proofs.Ties.{end_known, pair_open, pair_passed, settled_answered, start_known, tie_admitted, tie_contradicted, tie_room, tie_taken}
-use Rattle.solver.specs.Held.{Held}
+use Rattle.solver.proofs.Ties.{pair_passed, tie_contradicted, tie_room}
 use Rattle.solver.specs.Model.{model}
 use Rattle.solver.specs.Trials.{Upheld}
 use Rattle.std.proofs.lemmas.Result.{err_from_is_err_and}
 use Rattle.solver.proofs.solver.Solver.tie.Goals as goal
-
-pub settle-requires : goal.settle-requires
-settle-requires g c =
-    let μ = g.M.Measure in
-    let m = model g.S.TieStore c.args.self.now in
-    let t = c.args in
-    let room = length c.args.cycle.now in
-    let ok : c.check_tie.result ≡ Ok tt = search rules in
-    let none = none_of _ (sym c.check_tie.ensures ∙ ok) in
-    let passed = pair_passed μ m.standing t.from t.to _ none in
-    let store = g.S.TieStore.meaning c.args.self.now.store in
-    record {
-      opened = pair_open μ m.standing t.from t.to _ none;
-      start = start_known store t.from t.to _ passed;
-      end = end_known store t.from t.to _ passed;
-      admitted = tie_admitted μ store t.from t.to t.amount room passed;
-      taken = tie_taken μ store t.from t.to t.amount room passed;
-    }
 
 pub trail-requires : goal.trail-requires
 trail-requires g c =

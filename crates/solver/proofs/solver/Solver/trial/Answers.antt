@@ -1,9 +1,7 @@
-use Rattle.std.proofs.Common.{length, [], rules}
+use Rattle.std.proofs.Common.{length, rules}
 use Rattle.std.proofs.lemmas.Result.{err_from_is_err_and}
 use Rattle.law.proofs.Tellings.{goes_on}
-use Rattle.law.specs.Calls.{Answered}
 use Rattle.law.specs.declared.call.Call.TheVariants as call
-use Rattle.law.specs.declared.call.Answer.TheVariants as answer
 use Rattle.solver.specs.Inside.{held}
 use Rattle.solver.specs.Model.{model}
 use Rattle.solver.proofs.Trials.{tie_accepted, trial_accepted, trial_refused, trial_upheld}
