@@ -1,5 +1,5 @@
 -- The turns of the loops that settle all markers. Assumes nothing.
-use Rattle.std.proofs.Common.{◌≡◌, ℕ, ◌+◌, ◌<◌, ◌≤◌, Bool, true, false, Ok, Err, Result, sym, ap, ◌∙◌, subst, true≢false, arith}
+use Rattle.std.proofs.Common.{◌≡◌, ℕ, ◌+◌, ◌<◌, ◌≤◌, Bool, true, false, Ok, Err, Result, sym, ◌∙◌, subst, true≢false, arith}
 use Rattle.measure.specs.declared.Measure as measure
 use Rattle.measure.specs.Group.{OrderedGroup}
 use Rattle.measure.proofs.Within.{wider_to}

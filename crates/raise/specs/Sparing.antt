@@ -1,7 +1,6 @@
 -- The work before weights rise: the markers below b start from the datum, the others are done. Assumes nothing.
-use Rattle.std.specs.Prelude.{◌≡◌, ℕ, ◌<◌, true, false, ◌⊎◌, List, Some, ◌≢◌}
+use Rattle.std.specs.Prelude.{◌≡◌, ℕ, true, false, ◌⊎◌, List, Some, ◌≢◌}
 use Rattle.measure.specs.Group.{OrderedGroup}
-use Rattle.measure.specs.declared.Amount.{Amount}
 use Rattle.graph.specs.Graph.{Weight}
 use Rattle.graph.specs.Tree.{climb}
 use Rattle.graph.specs.Theorems.{Solved}
@@ -13,10 +12,6 @@ use Rattle.update.specs.declared.work.Work.{Work}
 use Rattle.update.specs.Reading.{flag}
 
 module _ {G : Type 0} (s : graph.Ghosts G) (x : G) where
-  -- every marker below n is joined to the datum
-  abbrev pub Joined : ℕ → Type 0
-  Joined n = (b : ℕ) → 0 < b → b < n → (w : Amount) × (s.weight x 0 b ≡ Some w)
-
   module _ (rows : List Row) (b : ℕ) where
     -- the path to z passes b
     pub record Hit (v : Work) (z : ℕ) : Type 0 where

@@ -1,4 +1,4 @@
-use Rattle.std.proofs.Common.{◌≡◌, ◌<◌, None, Some, sym, ap, ◌∙◌, subst, true≢false, arith}
+use Rattle.std.proofs.Common.{◌≡◌, ◌<◌, sym, ap, ◌∙◌, true≢false, arith}
 use Rattle.table.specs.Climb.{up as parents_of}
 use Rattle.update.specs.Tabled.{Tabled}
 use Rattle.change.specs.Changing.{NoLess}

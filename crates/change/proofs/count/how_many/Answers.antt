@@ -1,4 +1,4 @@
-use Rattle.std.proofs.Common.{◌≡◌, ℕ, ◌+◌, ◌<◌, ◌≤◌, sym, ◌∙◌, arith}
+use Rattle.std.proofs.Common.{sym, ◌∙◌, arith}
 use Rattle.change.proofs.Tallies.{tally_yes, tally_no}
 use Rattle.change.proofs.count.how_many.Goals as goal
 use Rattle.change.proofs.count.how_many.Goals.{then-differs, else-differs}

@@ -1,8 +1,8 @@
-use Rattle.std.proofs.Common.{◌≡◌, ℕ, ◌+◌, ◌<◌, Some, length, sym, ap, ◌∙◌, subst, arith, rules}
+use Rattle.std.proofs.Common.{◌≡◌, ℕ, ◌<◌, Some, length, sym, ap, ◌∙◌, subst, arith, rules}
 use Rattle.graph.specs.Tree.{climb}
 use Rattle.table.specs.Climb.{up as parents_of}
 use Rattle.update.specs.Tabled.{Ready, Tabled}
-use Rattle.raise.proofs.Spares.{Parting, part_start, part_hit, part_spared, part_kept, part_sizes, passes_not_datum}
+use Rattle.raise.proofs.Spares.{part_start, part_hit, part_spared, part_kept, part_sizes, passes_not_datum}
 use Rattle.raise.proofs.spare.spared.Goals as goal
 use Rattle.raise.proofs.spare.spared.Goals.{then-passes+in-Some, then-passes+in_default, else-passes}
 

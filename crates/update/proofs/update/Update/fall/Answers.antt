@@ -1,5 +1,4 @@
-use Rattle.std.proofs.Common.{◌<◌, false, length, replicate, subst, sym, arith, rules}
-use Rattle.measure.proofs.Within.{wider_to}
+use Rattle.std.proofs.Common.{◌<◌, false, length, replicate, subst, rules}
 use Rattle.graph.specs.Weights.{weights}
 use Rattle.table.specs.Climb.{up as parents_of}
 use Rattle.std.proofs.lemmas.Result.{err_from_is_err_and}
@@ -7,10 +6,9 @@ use Rattle.update.specs.Tabled.{Tabled, Ready}
 use Rattle.update.specs.Reading.{depth, flag}
 use Rattle.update.specs.Lowering.{Ancestors, settled}
 use Rattle.update.proofs.Rows.{no_flag}
-use Rattle.update.proofs.Shrinks.{shrunk}
 use Rattle.update.proofs.Turns.{not_loop}
 use Rattle.update.proofs.Ends.{turning}
-use Rattle.update.proofs.Begins.{begin_falls, begin_growing, begin_sizes, begun}
+use Rattle.update.proofs.Begins.{begin_sizes, begun}
 use Rattle.update.proofs.update.Update.fall.Goals as goal
 
 pub returns-then-up-b : goal.returns-then-up-b

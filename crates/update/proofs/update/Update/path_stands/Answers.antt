@@ -1,18 +1,16 @@
-use Rattle.std.proofs.Common.{ℕ, ◌-◌, ◌<◌, length, sym, refl, ◌∙◌, subst, true≢false, arith}
-use Rattle.graph.specs.Tree.{climbed}
+use Rattle.std.proofs.Common.{◌-◌, sym, refl, ◌∙◌, true≢false, arith}
 use Rattle.graph.specs.Weights.{weights}
 use Rattle.table.specs.Climb.{up as parents_of}
 use Rattle.table.proofs.Climbs.{parent_shorter}
 use Rattle.update.specs.Reading.{depth}
-use Rattle.update.specs.Restoring.{Stands, TightEdge}
+use Rattle.update.specs.Restoring.{TightEdge}
 use Rattle.update.proofs.Restores.{datum_stands, stands_down, stands_up}
 use Rattle.update.proofs.update.Update.path_stands.Goals as goal
 
 pub returns-then-not-tight : goal.returns-then-not-tight
 returns-then-not-tight g c =
     let m = g.M.Measure in
-    let u = c.args.self.now in
-    (
+    let u = c.args.self.now in (
       (λ e. absurd (true≢false (sym e))),
       (λ s. sym c.if-not-tight.true ∙ c.tight.ensures.1
           (rw c.parent-above.ensures.is (c.loop-here.invariant.2 s 0 (omega (arith, c.loop-here-test.true))))),

@@ -1,7 +1,5 @@
-use Rattle.std.proofs.Common.{◌≡◌, ℕ, ◌+◌, ◌<◌, sym, ap, ◌∙◌, subst, arith}
-use Rattle.measure.proofs.Within.{wider_to}
-use Rattle.update.specs.Tabled.{Tabled, Ready}
-use Rattle.update.specs.Reading.{Deep}
+use Rattle.std.proofs.Common.{◌≡◌, ◌<◌, sym, ap, ◌∙◌, subst}
+use Rattle.update.specs.Tabled.{Tabled}
 use Rattle.update.proofs.update.Update.relax.Goals as goal
 
 pub relax_from-requires-clause-sizes : goal.relax_from-requires-clause-sizes

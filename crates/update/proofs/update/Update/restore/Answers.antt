@@ -1,11 +1,9 @@
-use Rattle.std.proofs.Common.{◌≡◌, ℕ, ◌+◌, ◌<◌, ◌≤◌, List, refl, sym, ap, ◌∙◌, subst, true≢false, arith, rules}
+use Rattle.std.proofs.Common.{ℕ, ◌<◌, ◌≤◌, sym, ap, ◌∙◌, subst, true≢false, arith, rules}
 use Rattle.measure.proofs.Within.{wider_to}
 use Rattle.graph.specs.Tree.{Tree}
-use Rattle.graph.specs.Weights.{weights}
-use Rattle.table.specs.declared.row.Row.{Row}
 use Rattle.table.specs.Climb.{up as parents_of}
 use Rattle.update.specs.Tabled.{Ready, Tabled}
-use Rattle.update.proofs.Restores.{Restoring, restore_keep, restore_kept, restore_solved, restore_start, restore_take}
+use Rattle.update.proofs.Restores.{restore_keep, restore_kept, restore_solved, restore_start, restore_take}
 use Rattle.update.proofs.update.Update.restore.Goals as goal
 use Rattle.update.proofs.update.Update.restore.Goals.{then-rows-m+then-path_stands, else-rows-m, else-rows-m-via-then-rows-m+else-path_stands, else-rows-m-via-else-rows-m}
 

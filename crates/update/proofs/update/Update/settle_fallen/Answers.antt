@@ -17,12 +17,11 @@ returns-in-Err-clause-outcome g c =
     (λ h. true≢false (sym (c.stays.ensures.1 h) ∙ c.if-stays.false)) c.settle.ensures.settles c.in-Err.z told.0 told.1 (parents_of c.closed.result.rows) c.closed.ensures.here c.closed.ensures.other
 
 pub loop-y-preserved : goal.loop-y-preserved
-loop-y-preserved g c =
-    (
-      c.settle.ensures.room,
-      grows_next g.G.Graph g.M.Measure c.args.self.now c.args.up.now c.args.work c.loop-y.work c.loop-y.invariant.1 c.in-Some.y c.in-Some.ensures c.settle.new.work
-          (λ h. true≢false (sym (c.stays.ensures.1 h) ∙ c.if-stays.false)) c.settle.ensures.settles c.in_default-settle.ensures.relaxed,
-    )
+loop-y-preserved g c = (
+  c.settle.ensures.room,
+  grows_next g.G.Graph g.M.Measure c.args.self.now c.args.up.now c.args.work c.loop-y.work c.loop-y.invariant.1 c.in-Some.y c.in-Some.ensures c.settle.new.work
+      (λ h. true≢false (sym (c.stays.ensures.1 h) ∙ c.if-stays.false)) c.settle.ensures.settles c.in_default-settle.ensures.relaxed,
+)
 
 pub loop-y-smaller : goal.loop-y-smaller
 loop-y-smaller g c = fewer_left c.loop-y.work.done c.settle.new.work.done _ c.settle.ensures.one

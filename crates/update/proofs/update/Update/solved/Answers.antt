@@ -1,7 +1,5 @@
 use Rattle.std.proofs.Common.{◌≡◌, ap, ◌∙◌, subst, arith}
 use Rattle.measure.proofs.Within.{wider_to}
-use Rattle.graph.specs.Tree.{Tree}
-use Rattle.graph.specs.Weights.{weights}
 use Rattle.table.specs.Climb.{up as parents_of}
 use Rattle.update.specs.Tabled.{Tabled, Ready}
 use Rattle.update.proofs.Shrinks.{shrunk}

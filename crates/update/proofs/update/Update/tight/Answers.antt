@@ -1,6 +1,5 @@
-use Rattle.std.proofs.Common.{◌≡◌, Some, sym, ◌∙◌, subst, arith}
+use Rattle.std.proofs.Common.{◌≡◌, Some, sym, subst, arith}
 use Rattle.measure.proofs.Within.{wider_to}
-use Rattle.graph.specs.Graph.{Weight}
 use Rattle.update.specs.Tabled.{Tabled}
 use Rattle.update.proofs.Restores.{edge_sum, equal_by, tight_edge}
 use Rattle.update.proofs.update.Update.tight.Goals as goal
