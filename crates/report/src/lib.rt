@@ -38,10 +38,7 @@ fn answer_in<'a>(
     let mut bytes = Vec::new(heap);
     match make(text, state, records) {
         Ok(list) => {
-            let total = Amount {
-                mm: state.total_depth,
-                marks: 0,
-            };
+            let total = Amount::millimetres(state.total_depth);
             let solved = add_answer(&mut bytes, &state.names, list, StrictDepth, total)?;
             Ok(Report { bytes, solved })
         }
@@ -60,10 +57,6 @@ pub fn answer(heap: Global, text: &[u8]) -> Result<Report, AllocError>
     ensures { IfOk result (λ a. Reports text.now a.bytes.items a.solved) }
 {
     let mut state = State::new();
-    let mut records = [TieRecord {
-        start: 0,
-        end: 0,
-        amount: Amount { mm: 0, marks: 0 },
-    }; ROOM];
+    let mut records = [TieRecord::default(); ROOM];
     answer_in(heap, text, &mut state, &mut records)
 }

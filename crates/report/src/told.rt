@@ -28,10 +28,11 @@ fn add_rows<S: TieStore, M: Measure>(
     ensures { Adds out.old.items (rows_text (λ m. slice_index_or (names_of names.now) m []) (model S.TieStore solver.now).depth (model S.TieStore solver.now).parent n) result out.new.items }
 {
     for m in 0..n {
-        match solver.depth(m) {
-            Ok(row) => add_row(out, names.name(m), row.depth, names.name(row.parent))?,
-            Err(_why) => {}
-        }
+        let Ok(row) = solver.depth(m) else {
+            // the solver is open, and m is one of its markers
+            unreachable()
+        };
+        add_row(out, names.name(m), row.depth, names.name(row.parent))?;
     }
     Ok(())
 }

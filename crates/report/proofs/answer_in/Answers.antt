@@ -20,7 +20,7 @@ returns-in_ok-solved-in-Ok c =
     let told = c.in_ok-solved-in-Ok.ensures in
     let name : ℕ → List ℕ = λ m. get_or (names_of c.make.new.state.names) m [] in
     let fits : SFits w64 c.make.new.state.total_depth = search rules in
-    let same = ap (λ (z : ℤ). record { mm = z; marks = pos 0 }) (to_z-of_z w64 c.make.new.state.total_depth fits) in
+    let same = c.millimetres-total.ensures ∙ ap (λ (z : ℤ). record { mm = z; marks = pos 0 }) (to_z-of_z w64 c.make.new.state.total_depth fits) in
     let bytes : vec_items c.add_answer.new.out ≡ told.0 = told.1 ∙ ap (λ (xs : List ℕ). xs ++ told.0) c.new-bytes.ensures.items in
     read w c.in_ok-solved-in-Ok.solved made.0
     (subst (λ (xs : List ℕ). Told strict (total_of w) (well_store 256 w) name xs c.in_ok-solved-in-Ok.solved) (sym bytes)
