@@ -1,16 +1,10 @@
 use Rattle.std.proofs.Common.{◌≡◌, ◌++◌, map, length, drop, sym, refl, ap, ◌∙◌, subst}
-use Rattle.std.proofs.lemmas.Result.{err_from_is_err_and}
 use Rattle.store.specs.List.{ListSound, list_meaning}
 use Rattle.sheet_text.specs.Calls.{record_of}
 use Rattle.sheet_text.specs.Reading.{well_of}
 use Rattle.sheet_text.proofs.Making.{made}
 use Rattle.sheet_text.proofs.Recording.{sound, stored}
 use Rattle.sheet_text.proofs.lists.make.Goals as goal
-
-pub returns-in_err-count : goal.returns-in_err-count
-returns-in_err-count c =
-    let p = err_from_is_err_and c.from_residual.result c.from_residual.ensures.1 in
-    rw (p.1, p.2) c.in_err-count.ensures.0
 
 pub with_ties-requires : goal.with_ties-requires
 with_ties-requires c =
