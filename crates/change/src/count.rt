@@ -21,6 +21,15 @@ fn how_many<F: Fn(u16) -> bool>(n: u16, differs: F) -> u16
     count
 }
 
+// Whether marker m has another depth in the new table.
+fn moves<M: Measure>(measure: &M, old: &DepthTable, new: &DepthTable, m: u16) -> bool
+    requires inside { (m < old.now.n) × (m < new.now.n) }
+    requires small { M.within 256 (deep old.now.rows m) × M.within 256 (deep new.now.rows m) }
+    ensures { result ≡ not (same_value M.Measure (deep old.now.rows m) (deep new.now.rows m)) }
+{
+    measure.compare(old.depth(m), new.depth(m)).is_ne()
+}
+
 /// How many markers have another depth in the new table.
 pub fn moved<M: Measure>(measure: &M, old: &DepthTable, new: &DepthTable) -> u16
     requires same { new.now.n ≡ old.now.n }
@@ -28,10 +37,7 @@ pub fn moved<M: Measure>(measure: &M, old: &DepthTable, new: &DepthTable) -> u16
     requires new { Deep M.Measure old.now.n 256 new.now.rows }
     ensures { result ≡ tally old.now.n (λ k. not (same_value M.Measure (deep old.now.rows k) (deep new.now.rows k))) }
 {
-    let differs = |m: u16| -> bool
-        requires { (m < old.now.n) × (m < new.now.n) }
-    { measure.compare(old.depth(m), new.depth(m)).is_ne() };
-    how_many(old.n(), differs)
+    how_many(old.n(), |m| moves(measure, old, new, m))
 }
 
 /// How many markers have another parent in the new table.
