@@ -15,8 +15,8 @@ use store::TieStore;
 use update::Contradiction;
 
 impl<S: TieStore, M: Measure> Solver<S, M> {
-    // Gives a pair of an open solver an amount, or none: how many markers then have another depth, and how many another parent; or rows whose
-    // parents lead round a cycle, and nothing is changed.
+    // Gives a pair of an open solver an amount, or none: how many markers then have another depth, and how many another parent; or
+    // rows whose parents lead round a cycle, and nothing is changed.
     pub(crate) fn settle(
         &mut self,
         from: u16,

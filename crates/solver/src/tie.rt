@@ -29,6 +29,7 @@ impl<S: TieStore, M: Measure> Solver<S, M> {
         // lets the proof see what is so of every solver
         let _ = &self.table;
         self.check_tie(from, to, amount, cycle.len())?;
+        // by a match, since a proof has no name for a buffer that a closure wrote
         match self.settle(from, to, Some(amount)) {
             Ok(counts) => Ok(counts),
             Err(work) => Err(Refusal::Contradiction {
