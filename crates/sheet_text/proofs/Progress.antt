@@ -1,21 +1,14 @@
 -- What comes of a text that is read to its end is said by its lines. Assumes nothing.
-use Rattle.std.proofs.Common.{◌≡◌, ℕ, ◌+◌, List, [], ◌∷◌, ◌++◌, length, Ok, Err, Result, sym, refl, ap, ◌∙◌, subst, inr, append_assoc, arith, length-append}
-use Rattle.line_text.specs.Lines.{spell, Valid, said}
+use Rattle.std.proofs.Common.{◌≡◌, ℕ, ◌+◌, List, [], ◌∷◌, ◌++◌, length, Ok, Result, sym, refl, ap, ◌∙◌, subst, append_assoc, arith, length-append}
+use Rattle.line_text.specs.Lines.{spell, said}
 use Rattle.line_text.specs.Spelling.{Without}
-use Rattle.line_text.specs.declared.lines.Line.{Line}
 use Rattle.sheet_text.specs.Format.{lines, Named}
-use Rattle.sheet_text.specs.Reading.{Known, start, Does, DoesBytes, read_line, Good, Outcome}
+use Rattle.sheet_text.specs.Reading.{Known, start, read_line, Good, Outcome}
 use Rattle.sheet_text.specs.Reading.Outcome.{ended, good, faulty}
-use Rattle.sheet_text.specs.declared.faults.Code.{Code}
 use Rattle.sheet_text.specs.declared.faults.Fault.{Fault}
-use Rattle.sheet_text.specs.declared.state.State.{State}
 use Rattle.sheet_text.proofs.Determined.{err_ok, ok_same}
 use Rattle.sheet_text.proofs.Fronts.{front_lines, front, Fair, lines_append}
 use Rattle.sheet_text.proofs.Stepping.{line_step, no_ties}
-
-pub does_bytes : (k : Known) (place : ℕ) (bs : List ℕ) (r : Result (Unit {0}) Code) (t : State) (l : Line) → Valid l → spell l ≡ bs → Does (read_line k place (said l)) r t → DoesBytes k place bs r t
-does_bytes k place bs (Ok u) t l v s d = (l, v, s, d)
-does_bytes k place bs (Err e) t l v s d = inr (l, v, s, d)
 
 pub cut_length : (rest line after : List ℕ) → rest ≡ line ++ 10 ∷ after → length rest ≡ length line + 1 + length after
 cut_length rest line after e = omega (arith, ap length e, length-append line (10 ∷ after))

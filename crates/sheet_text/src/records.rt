@@ -28,6 +28,7 @@ pub(crate) fn write(ties: &[Tie], records: &mut [TieRecord])
     requires { length ties.now ≤ length records.old }
     ensures { records.new ≡ map record_of ties.now ++ drop (length ties.now) records.old }
 {
+    // By index: of what a `zip` with `iter_mut` writes, a proof learns nothing.
     for (i, tie) in ties.iter().enumerate() {
         records[i] = TieRecord::from(*tie);
     }

@@ -1,12 +1,9 @@
-use Rattle.std.proofs.Common.{◌≡◌, Err, rules, refl, subst, arith}
-use Rattle.sheet_text.specs.Reading.{known, Faulty, Outcome}
+use Rattle.std.proofs.Common.{◌≡◌, Err, rules, refl, arith}
+use Rattle.sheet_text.specs.Reading.{known, Faulty}
 use Rattle.std.proofs.lemmas.Result.{err_from_is_err_and}
 use Rattle.sheet_text.specs.Reading.Outcome.{ended, good, faulty}
 use Rattle.sheet_text.proofs.Progress.{cut_length}
 use Rattle.sheet_text.proofs.reader.read_lines.Goals as goal
-
-pub loop-line-init : goal.loop-line-init
-loop-line-init c = ((λ r o. subst (λ k. Outcome r k 0 c.args.file.now) c.requires.1 o), omega arith)
 
 pub loop-line-preserved : goal.loop-line-preserved
 loop-line-preserved c =
