@@ -2,7 +2,7 @@
 
 #![tactic(auto)]
 
-ghost use Rattle.std.specs.Prelude.{◌≡◌, ℕ};
+ghost use Rattle.std.specs.Prelude.{◌≡◌};
 ghost use Rattle.law.specs.Standing.{bound_at, capped};
 ghost use Rattle.bounds.specs.Scopes.{in_scope};
 ghost use Rattle.bounds.specs.Small.{BoundsSound, Small};

@@ -20,19 +20,6 @@ module _ (f : ℕ → Bool) where
   next : (k : ℕ) → suc k ≡ k + 1
   next k = omega arith
 
-  -- one marker more
-  pub tally_yes : (k c : ℕ) → c ≡ tally k f → f k ≡ true → c + 1 ≡ tally (k + 1) f
-  tally_yes k c e t = subst (λ z. c + 1 ≡ tally z f) (next k) (counted (f k) (tally k f) t e)
-    where
-      counted : (v : Bool) (j : ℕ) → v ≡ true → c ≡ j → c + 1 ≡ cond v 1 0 + j
-      counted v j p q = rw (p, q) (omega arith)
-
-  pub tally_no : (k c : ℕ) → c ≡ tally k f → f k ≡ false → c ≡ tally (k + 1) f
-  tally_no k c e t = subst (λ z. c ≡ tally z f) (next k) (passed (f k) (tally k f) t e)
-    where
-      passed : (v : Bool) (j : ℕ) → v ≡ false → c ≡ j → c ≡ cond v 1 0 + j
-      passed v j p q = rw (p, q) (omega arith)
-
   pub tally_none : ((k : ℕ) → f k ≡ false) → (n : ℕ) → tally n f ≡ 0
   tally_none none zero = refl
   tally_none none (suc n) = joined (f n) (tally n f) (none n) (tally_none none n)
@@ -47,9 +34,6 @@ none_reparented n p = tally_none (λ k. not (eqb (p k) (p k))) (λ k. ap not (eq
 module _ {M : Type 0} (μ : measure.Ghosts M) where
   at_most_is : (a b : Amount) → μ.group.le (μ.value a) (μ.value b) → at_most μ a b ≡ true
   at_most_is a b h = sym (at_most_by μ true a b ((λ e. h), λ l. refl))
-
-  at_most_not : (a b : Amount) → Lt μ.group (μ.value b) (μ.value a) → at_most μ a b ≡ false
-  at_most_not a b h = sym (at_most_by μ false a b ((λ e. absurd (false≢true e)), λ l. absurd (h l)))
 
   joined : (s t u v : Bool) → s ≡ u → t ≡ v → not (s && t) ≡ not (u && v)
   joined s t u v p q = rw (p, q) refl

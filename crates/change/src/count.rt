@@ -1,4 +1,4 @@
-ghost use Rattle.std.specs.Prelude.{◌≡◌, ℕ, ◌<◌, ◌≤◌, Bool, not, ◌==◌};
+ghost use Rattle.std.specs.Prelude.{◌≡◌, ℕ, ◌<◌, Bool, not, ◌==◌};
 ghost use Rattle.law.specs.Amounts.{same_value};
 ghost use Rattle.law.specs.Calls.{tally};
 ghost use Rattle.table.specs.Climb.{deep, up as parents_of};

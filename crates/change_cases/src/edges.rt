@@ -33,10 +33,7 @@ fn ties_refused(rt: HostRuntime) {
     );
     assert_eq!(rt;
         solver.tie(1, 2, Amount::millimetres(20_000_000), &mut cycle),
-        Ok(Counts {
-            moved: 0,
-            reparented: 0
-        })
+        Ok(Counts::default())
     );
     assert_eq!(rt;
         solver.tie(2, 3, Amount::millimetres(-8001), &mut cycle),

@@ -5,7 +5,8 @@ use Rattle.measure.specs.Group.{OrderedGroup}
 use Rattle.graph.specs.Graph.{Weight, Edge, Fits, Cycle}
 use Rattle.graph.specs.Tree.{climb, way, Tree, Tight}
 use Rattle.graph.specs.Change.{Lowered}
-use Rattle.graph.proofs.Relabel.{Relabel, Below, Settles}
+use Rattle.graph.proofs.Relabel.{Relabel, Below}
+use Rattle.graph.specs.Settling.{Settles}
 
 -- y was settled in turn t
 pub record Turned (t : ℕ) (y : ℕ) (turn turn' : ℕ → ℕ) : Type 0 where

@@ -4,7 +4,7 @@ use native.Mathlib.Decide.{ℕ_discrete}
 use Rattle.measure.specs.Group.{OrderedGroup}
 use Rattle.graph.specs.Graph.{Weight, Edge}
 use Rattle.graph.specs.Tree.{climb, Tight}
-use Rattle.graph.proofs.Relabel.{Settles}
+use Rattle.graph.specs.Settling.{Settles}
 use Rattle.graph.proofs.Regrow.{Born, Grown, Regrafted, Turned, Ended, GrowsOne, Regrown}
 use Rattle.graph.proofs.Regrow.Born.{same, first, later}
 use Rattle.graph.proofs.Sums.{le_dec, le_of_eq, not_fallen, tight_again}

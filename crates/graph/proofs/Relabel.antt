@@ -1,5 +1,6 @@
 -- What happens to the distances when one weight falls: labels that start as the old depths and are lowered, one marker
 -- settled after another. Assumes nothing.
+use Rattle.graph.specs.Settling.{Settles}
 use Rattle.std.proofs.Common.{◌≡◌, ℕ, ◌<◌, Bool, true, false, ◌⊎◌}
 use Rattle.measure.specs.Group.{OrderedGroup}
 use Rattle.graph.specs.Change.{Lowered}
@@ -10,11 +11,6 @@ abbrev pub Unmoved : OrderedGroup → Type 0
 Unmoved g =
     (n : ℕ) (w w' : Weight g) (a b : ℕ) (c : g.carrier) (d : ℕ → g.carrier) → Lowered g w w' a b c → Fits g n w d
     → g.le (d b) (g.plus (d a) c) → Fits g n w' d
-
--- X' is X and y
-pub record Settles (X : ℕ → Bool) (y : ℕ) (X' : ℕ → Bool) : Type 0 where
-  pub at : X' y ≡ true
-  pub other : (z : ℕ) → ¬ (z ≡ y) → X' z ≡ X z
 
 module _ (g : OrderedGroup) (n : ℕ) (d : ℕ → g.carrier) where
   -- no label is above the old depth

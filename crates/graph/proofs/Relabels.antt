@@ -6,7 +6,8 @@ use Rattle.measure.specs.Group.{OrderedGroup}
 use Rattle.graph.specs.Graph.{Weight, Edge, Walk, Fits}
 use Rattle.graph.specs.Tree.{climb, way, Tight}
 use Rattle.graph.specs.Change.{Lowered}
-use Rattle.graph.proofs.Relabel.{Unmoved, Relabel, Picked, Settles, Relaxed, SettledStays, SettlesOne, Relabelled}
+use Rattle.graph.proofs.Relabel.{Unmoved, Relabel, Picked, Relaxed, SettledStays, SettlesOne, Relabelled}
+use Rattle.graph.specs.Settling.{Settles}
 use Rattle.graph.proofs.Sums.{stays, ahead_on, self_le}
 use Rattle.graph.proofs.Walks.{Smaller, smaller_walk, walk_push}
 

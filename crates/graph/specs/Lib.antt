@@ -4,3 +4,4 @@ pub mod Change
 pub mod Buffer
 pub mod Theorems
 pub mod Weights
+pub mod Settling

@@ -84,7 +84,7 @@ pub enum Call {
 }
 
 /// How many markers have another depth after a change, and how many another parent.
-#[derive(Clone, Copy, PartialEq, Eq, Debug)]
+#[derive(Clone, Copy, PartialEq, Eq, Default, Debug)]
 pub struct Counts {
     pub moved: u16,
     pub reparented: u16,

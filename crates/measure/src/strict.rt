@@ -1,6 +1,6 @@
 //! Amounts whose marks decide where the millimetres are equal.
 
-ghost use Rattle.std.specs.Prelude.{◌≡◌, ◌*◌, ◌&&◌, pos, negsuc, int_le};
+ghost use Rattle.std.specs.Prelude.{◌*◌, ◌&&◌, pos, negsuc, int_le};
 ghost use Rattle.measure.specs.Bounds.{UpTo, up_to};
 ghost use Rattle.measure.specs.Integers.{pairs};
 ghost use Rattle.measure.specs.Strict.{strict_laws};

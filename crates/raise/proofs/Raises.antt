@@ -4,7 +4,8 @@ use native.Mathlib.Decide.{ℕ_discrete}
 use Rattle.measure.specs.Group.{OrderedGroup}
 use Rattle.graph.specs.Graph.{Weight, Edge}
 use Rattle.graph.specs.Tree.{climb}
-use Rattle.graph.proofs.Relabel.{Picked, Settles, Relaxed}
+use Rattle.graph.proofs.Relabel.{Picked, Relaxed}
+use Rattle.graph.specs.Settling.{Settles}
 use Rattle.graph.proofs.Sums.{le_of_eq}
 use Rattle.graph.proofs.Trees.{short_climbs}
 use Rattle.graph.proofs.Relabels.{not_both, which, settles_one}

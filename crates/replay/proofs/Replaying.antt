@@ -53,13 +53,3 @@ rest_more es fs i e old k h = get_or-set_other es i k e blank (λ p. other p) �
   where
     other : k ≡ i → ⊥
     other p = omega arith
-
--- past the last entry both lists have blank ones
-pub calls_all : (es fs : List Entry) (i : ℕ) → length es ≤ i → ((k : ℕ) → k < i → (get_or es k blank).call ≡ capped (get_or fs k blank).call)
-    → ((k : ℕ) → i ≤ k → get_or es k blank ≡ get_or fs k blank) → (k : ℕ) → (get_or es k blank).call ≡ capped (get_or fs k blank).call
-calls_all es fs i last done rest k = elim (cases_lt k i) [
-  | inl h ↦ done k h
-  | inr h ↦
-      let past = get_or_past es k blank (omega arith) in
-      ap (λ (e : Entry). e.call) past ∙ ap (λ (e : Entry). capped e.call) (sym past ∙ rest k h)
-]

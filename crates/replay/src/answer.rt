@@ -5,7 +5,7 @@ ghost use Rattle.solver.specs.Model.{model};
 ghost use Rattle.replay.specs.Replays.{capped, Holds, Made, room};
 
 use crate::calls::{commit, open, path, roll_back, tie, trial};
-use crate::results::{answer, changed};
+use crate::results::{answer, changed, read};
 use law::{Answer, Call};
 use measure::Measure;
 use solver::{Solver, TrialToken};
@@ -76,16 +76,7 @@ pub fn answer_to<S: TieStore, M: Measure>(
         } => trial(solver, from, to, amount, room, buffer, token),
         Call::Commit { number } => commit(solver, number, token),
         Call::RollBack { number } => roll_back(solver, number, token),
-        Call::Depth { marker } => (
-            answer(
-                solver.depth(marker),
-                |row| Answer::Row {
-                    depth: row.depth,
-                    parent: row.parent,
-                },
-            ),
-            token,
-        ),
+        Call::Depth { marker } => (answer(solver.depth(marker), read), token),
         Call::Path { marker, room } => (path(solver, marker, room, buffer), token),
     }
 }

@@ -1,6 +1,6 @@
 //! The calls that are lent a buffer or a token.
 
-ghost use Rattle.std.specs.Prelude.{◌≡◌, ◌≤◌, [], length};
+ghost use Rattle.std.specs.Prelude.{◌≤◌, [], length};
 ghost use Rattle.law.specs.declared.call.Call.TheVariants as call;
 ghost use Rattle.solver.specs.Model.{model};
 ghost use Rattle.replay.specs.Replays.{Bears, Holds, Made};

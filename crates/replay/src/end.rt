@@ -1,6 +1,5 @@
 //! The end of a trial, by the token that is in hand.
 
-ghost use Rattle.std.specs.Prelude.{◌≡◌};
 ghost use Rattle.solver.specs.Model.{model};
 ghost use Rattle.replay.specs.Replays.{Ended, Holds, Kept};
 

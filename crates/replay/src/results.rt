@@ -1,12 +1,14 @@
 //! The results of the calls, as answers.
 
-ghost use Rattle.std.specs.Prelude.{◌≡◌};
+ghost use Rattle.std.specs.Prelude.{◌≡◌, Ok};
 ghost use Rattle.std.specs.Result.{MatchResult};
 ghost use Rattle.law.specs.declared.call.Answer.TheVariants.{Changed, Refused};
+ghost use Rattle.solver.specs.Model.{read_row};
 ghost use Rattle.replay.specs.Replays.{token_back};
 
 use law::{Answer, Counts, Refusal};
 use solver::{Returned, TrialToken};
+use table::Row;
 
 // The answer to a call with this result.
 pub(crate) fn answer<T, F: FnOnce(T) -> Answer>(r: Result<T, Refusal>, accepted: F) -> Answer
@@ -40,5 +42,14 @@ pub(crate) fn changed(counts: Counts) -> Answer
     Answer::Changed {
         moved: counts.moved,
         reparented: counts.reparented,
+    }
+}
+
+pub(crate) fn read(row: Row) -> Answer
+    ensures { result ≡ read_row (Ok row) }
+{
+    Answer::Row {
+        depth: row.depth,
+        parent: row.parent,
     }
 }

@@ -22,12 +22,3 @@ take_front (m ∷ ms) rest = ap (λ xs. m ∷ xs) (take_front ms rest)
 
 pub front_taken : (ms before after : List ℕ) (size : ℕ) → after ≡ over_front ms before → size ≡ length ms → take size after ≡ ms
 front_taken ms before after size e k = ap (λ i. take i after) k ∙ ap (take (length ms)) e ∙ take_front ms (drop (length ms) before)
-
--- what stands in the front of a buffer
-pub front_below : (size n : ℕ) (buffer : List ℕ) → size ≤ length buffer → ((k : ℕ) → k < size → get_or buffer k 0 < n)
-    → (k : ℕ) → k < length (take (size - 0) buffer) → get_or (take (size - 0) buffer) k 0 < n
-front_below size n buffer fits below k h =
-    let e : size - 0 ≡ size = omega arith in
-    let l : length (take (size - 0) buffer) ≡ size = ap (λ i. length (take i buffer)) e ∙ length-take-le size buffer fits in
-    let lt : k < size - 0 = omega arith in
-    subst (λ v. v < n) (sym (get_or-take (size - 0) buffer k 0 lt)) (below k (omega arith))

@@ -44,14 +44,6 @@ module _ {M : Type 0} (μ : measure.Ghosts M) (total : Amount) (sm : StoreMeanin
           (ap (rows_text name m'.depth m'.parent) (opened_count n m.standing.count a.answered ∙ ap (λ (s : Standing). s.count) standing))
 
   module _ (why : Refusal) (told : Answered μ m (call.Open 64) before (answer.Refused why) after m') where
-    RefusedSo : Type 0
-    RefusedSo =
-        (first_refusal μ m.standing (call.Open 64) ≡ Some why)
-        ⊎ ((first_refusal μ m.standing (call.Open 64) ≡ None) × Contradicted μ m (call.Open 64) before (answer.Refused why) after m')
-
-    size_of : Contradicted μ m (call.Open 64) before (answer.Refused why) after m' → ℕ
-    size_of c = length c.markers
-
     pub told_refusal : Told μ total sm name (refusal_text name why after) false
     told_refusal = by (opened_refused μ m m' 64 why before after told)
       where

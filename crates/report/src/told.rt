@@ -1,6 +1,6 @@
 //! What an opened solver tells, as lines.
 
-ghost use Rattle.std.specs.Prelude.{◌≡◌, ℕ, ◌<◌, ◌≤◌, false, [], ◌++◌, length, slice_index_or};
+ghost use Rattle.std.specs.Prelude.{◌≡◌, ◌<◌, ◌≤◌, false, [], length, slice_index_or};
 ghost use Rattle.depth_text.specs.Lines.{Adds, rows_text};
 ghost use Rattle.law.specs.Refusals.{cycle_length, is_new};
 ghost use Rattle.sheet_text.specs.Naming.{names_of};

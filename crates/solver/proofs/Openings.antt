@@ -140,20 +140,6 @@ module _ {S M : Type 0} (st : StoreGhosts S) (μ : MeasureGhosts M) (s : Held S)
           buffer = same;
         })
 
-  pub contradiction_answered : (after : List ℕ) (size : ℕ) → Witness μ.group (st.meaning s.store).count (bounds_of μ s.total (st.meaning s.store).tie) before after size
-      → Answered μ (model st s) (call.Open (length before)) before (answer.Refused (Contradiction size)) after (model st s)
-  contradiction_answered after size v = contradicted μ (model st s) (call.Open (length before)) before (answer.Refused (Contradiction size)) after (model st s) none
-      (record {
-        markers = v.markers;
-        sum = v.sum;
-        cycle = v.cycle;
-        below = v.below;
-        closes = tt;
-        answered = ap (λ (i : ℕ). answer.Refused (Contradiction i)) v.counted;
-        buffer = v.buffer;
-        same = refl;
-      })
-
 -- an opening that is answered with a number of markers was accepted
 pub opened_accepted : {M : Type 0} (μ : MeasureGhosts M) (m m' : Model) (room n : ℕ) (before after : List ℕ) → Answered μ m (call.Open room) before (answer.Opened n) after m'
     → (first_refusal μ m.standing (call.Open room) ≡ None) × Accepted μ m (call.Open room) before (answer.Opened n) after m'

@@ -38,13 +38,7 @@ no_none : (w : Amount) → Some w ≡ None → ⊥
 no_none w e = let z : ◌≡◌ {A = ℕ} 0 1 = cc in omega arith
 
 module _ (m : StoreMeaning) (law : Lawful m) where
-  -- the ends of a tie are markers, and different
-  pub start_inside : (a b : ℕ) → ¬ (m.tie a b ≡ None) → a < m.count
-  start_inside a b h = elim (cases_lt a m.count) [ inl l ↦ l | inr l ↦ absurd (h (law.unknown_start a b l)) ]
-
-  pub end_inside : (a b : ℕ) → ¬ (m.tie a b ≡ None) → b < m.count
-  end_inside a b h = elim (cases_lt b m.count) [ inl l ↦ l | inr l ↦ absurd (h (law.unknown_end a b l)) ]
-
+  -- the ends of a tie are different
   ends_apart : (a b : ℕ) → ¬ (m.tie a b ≡ None) → ¬ (a ≡ b)
   ends_apart a b h e = h (ap (m.tie a) (sym e) ∙ law.same a)
 

@@ -32,6 +32,3 @@ module _ {M : Type 0} (μ : measure.Ghosts M) (m : Model) (k : ℕ) (opened : is
   never_by : (why : Refusal) → Outcome μ None m (call.Depth k) [] (answer.Refused why) [] m → ⊥
   never_by why (inl c) = c.closes
   never_by why (inr a) = let e = a.answered in let z : ◌≡◌ {A = ℕ} 0 1 = cc in omega arith
-
-  pub never_refused : (why : Refusal) → Answered μ m (call.Depth k) [] (answer.Refused why) [] m → ⊥
-  never_refused why told = never_by why (outcome_at (answer.Refused why) told)

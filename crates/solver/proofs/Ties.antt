@@ -66,12 +66,6 @@ module _ (m : StoreMeaning) (a b : ℕ) (rest : List (Option Refusal)) (none : p
   known : (ltb a m.count && ltb b m.count) ≡ true
   known = not-false (ltb a m.count && ltb b m.count) first_passed.0
 
-  pub start_known : a < m.count
-  start_known = ltb-true a m.count (and_parts (ltb a m.count) (ltb b m.count) known).0
-
-  pub end_known : b < m.count
-  end_known = ltb-true b m.count (and_parts (ltb a m.count) (ltb b m.count) known).1
-
   pub rest_none : first rest ≡ None
   rest_none = third_passed.1
 
@@ -93,9 +87,6 @@ module _ {M : Type 0} (μ : MeasureGhosts M) (m : StoreMeaning) (a b : ℕ) (w :
   room_passed : (ltb room m.count ≡ false) × (first (when (not (is_some (m.tie a b)) && eqb m.free 0) StoreFull ∷ []) ≡ None)
   room_passed = passed (ltb room m.count) ShortBuffer (when (not (is_some (m.tie a b)) && eqb m.free 0) StoreFull ∷ []) amount_passed.1
 
-  pub tie_admitted : μ.admits w ≡ true
-  tie_admitted = not-false (μ.admits w) amount_passed.0
-
   pub tie_room : m.count ≤ room
   tie_room = ltb-false room m.count room_passed.0
 
@@ -106,12 +97,6 @@ module _ {M : Type 0} (μ : MeasureGhosts M) (m : StoreMeaning) (a b : ℕ) (w :
   place_by true q u e = refl
   place_by false true u e = absurd (true≢false e)
   place_by false false u e = refl
-
-  -- the store takes the tie
-  pub tie_taken : set_answer m a b (Some w) ≡ Ok tt
-  tie_taken =
-      store_passes m a b (when (not (μ.admits w)) BadAmount ∷ when (ltb room m.count) ShortBuffer ∷ when (not (is_some (m.tie a b)) && eqb m.free 0) StoreFull ∷ []) none _ _ _ _
-      ∙ place_by (is_some (m.tie a b)) (eqb m.free 0) _ has_place
 
 module _ (m : StoreMeaning) (a b : ℕ) (none : untie_refusal m a b ≡ None) where
   tied : is_some (m.tie a b) ≡ true

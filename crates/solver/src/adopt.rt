@@ -17,10 +17,7 @@ pub(crate) fn adopt<M: Measure>(
     ensures { Adopted M.Measure table.old next result table.new }
 {
     match next {
-        None => Counts {
-            moved: 0,
-            reparented: 0,
-        },
+        None => Counts::default(),
         Some(next) => {
             let counts = Counts {
                 moved: moved(measure, table, &next),

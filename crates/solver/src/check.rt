@@ -12,7 +12,7 @@ use measure::{Amount, Measure};
 use store::TieStore;
 
 impl<S: TieStore, M: Measure> Solver<S, M> {
-    // Whether the amount of the tie from `a` to `b`, if there is one, is admitted.
+    // Refuses a tie from `a` to `b` whose amount is not admitted.
     fn check_tie_at(&self, a: u16, b: u16) -> Result<(), Refusal>
         ensures { result ≡ as_result (bad_tie M.Measure a b ((S.TieStore.meaning self.now.store).tie a b)) }
     {

@@ -1,6 +1,6 @@
 //! Opening: the store's ties are inserted one after another into the table without ties.
 
-ghost use Rattle.std.specs.Prelude.{◌≡◌, ◌+◌, ◌<◌, ◌≤◌, length};
+ghost use Rattle.std.specs.Prelude.{◌+◌, ◌<◌, ◌≤◌, length};
 ghost use Rattle.bounds.specs.Scopes.{in_scope};
 ghost use Rattle.bounds.specs.Small.{BoundsSound};
 ghost use Rattle.bounds.specs.declared.scope.Scope.TheVariants as scope;

@@ -1,6 +1,6 @@
 //! A marker's path.
 
-ghost use Rattle.std.specs.Prelude.{◌≡◌, length};
+ghost use Rattle.std.specs.Prelude.{length};
 ghost use Rattle.law.specs.Calls.{Answered};
 ghost use Rattle.law.specs.Results.{read_path};
 ghost use Rattle.law.specs.Telling.{Logged};

@@ -5,6 +5,7 @@ ghost use Rattle.law.specs.Calls.{Answered};
 ghost use Rattle.law.specs.Telling.{Logged};
 ghost use Rattle.law.specs.declared.call.Call.TheVariants as call;
 ghost use Rattle.solver.specs.Model.{model, read_row};
+ghost use Rattle.solver.specs.Trials.{Upheld};
 
 use crate::solver::Solver;
 use law::Refusal;
@@ -22,9 +23,10 @@ impl<S: TieStore, M: Measure> Solver<S, M> {
         Ok(self.table.row(marker))
     }
 
-    /// How many changes were accepted; it stays at its largest value.
+    /// How many changes were accepted; it stays at its largest value. Here a proof also learns what is so of every solver.
     pub fn change_count(&self) -> u32
-        ensures { result ≡ (model S.TieStore self.now).changes }
+        ensures count { result ≡ (model S.TieStore self.now).changes }
+        ensures upheld { Upheld S.TieStore M.Measure self.now }
     {
         self.changes
     }

@@ -1,6 +1,6 @@
 //! Ties put, replaced and taken away.
 
-ghost use Rattle.std.specs.Prelude.{◌≡◌, [], length};
+ghost use Rattle.std.specs.Prelude.{[], length};
 ghost use Rattle.law.specs.Calls.{Answered};
 ghost use Rattle.law.specs.Results.{changed};
 ghost use Rattle.law.specs.Telling.{Logged};
@@ -32,8 +32,8 @@ impl<S: TieStore, M: Measure> Solver<S, M> {
         // by a match, since a proof has no name for a buffer that a closure wrote
         match self.settle(from, to, Some(amount)) {
             Ok(counts) => Ok(counts),
-            Err(work) => Err(Refusal::Contradiction {
-                length: trail(&work.rows, from, to, cycle),
+            Err(found) => Err(Refusal::Contradiction {
+                length: trail(&found.rows, from, to, cycle),
             }),
         }
     }
@@ -49,7 +49,7 @@ impl<S: TieStore, M: Measure> Solver<S, M> {
         match self.settle(from, to, None) {
             Ok(counts) => Ok(counts),
             // whatever fits the ties fits them without this one
-            Err(_work) => unreachable(),
+            Err(_found) => unreachable(),
         }
     }
 }

@@ -1,6 +1,6 @@
 //! Ties for the time being: tried, and then left standing or taken back.
 
-ghost use Rattle.std.specs.Prelude.{◌≡◌, [], length};
+ghost use Rattle.std.specs.Prelude.{[], length};
 ghost use Rattle.law.specs.Calls.{Answered};
 ghost use Rattle.law.specs.Telling.{Logged};
 ghost use Rattle.law.specs.declared.call.Call.TheVariants as call;

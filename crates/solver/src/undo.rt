@@ -1,6 +1,6 @@
 //! A trial that is taken back.
 
-ghost use Rattle.std.specs.Prelude.{◌≡◌, []};
+ghost use Rattle.std.specs.Prelude.{[]};
 ghost use Rattle.law.specs.Calls.{Answered};
 ghost use Rattle.law.specs.Telling.{Logged};
 ghost use Rattle.law.specs.declared.call.Call.TheVariants as call;
@@ -28,7 +28,7 @@ impl<S: TieStore, M: Measure> Solver<S, M> {
                 match self.settle(from, to, before) {
                     Ok(counts) => Ok(counts),
                     // what fitted before the trial fits again
-                    Err(_work) => unreachable(),
+                    Err(_found) => unreachable(),
                 }
             }
             _ => Err(Returned {

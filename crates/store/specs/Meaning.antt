@@ -65,7 +65,7 @@ clear_done m a b = record {
 abbrev pub clear_after : StoreMeaning → ℕ → ℕ → StoreMeaning
 clear_after m a b = cond (is_done (clear_answer m a b)) (clear_done m a b) m
 
--- what holds of every sound store: 2 to 64 markers, and no amount for another marker or for one marker twice
+-- what holds of every store: 2 to 64 markers, and no amount for another marker or for one marker twice
 pub record Lawful (m : StoreMeaning) : Type 0 where
   pub low : 2 ≤ m.count
   pub high : m.count ≤ 64

@@ -1,6 +1,6 @@
 //! A store that keeps its ties one after another in lent records.
 
-ghost use Rattle.std.specs.Prelude.{◌≡◌, length, Ok, position, take};
+ghost use Rattle.std.specs.Prelude.{◌≡◌, length, Ok, position};
 ghost use Rattle.store.specs.Meaning.{empty_meaning};
 ghost use Rattle.store.specs.Laws.{list_lawful};
 ghost use Rattle.store.specs.List.{is_pair, list_meaning, ListSound, Placed, size_answer};

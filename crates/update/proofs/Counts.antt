@@ -1,7 +1,7 @@
 -- How many markers are settled. Assumes nothing.
 use Rattle.std.proofs.Common.{◌≡◌, ℕ, zero, suc, ◌+◌, ◌<◌, ◌≤◌, Bool, true, false, cond, refl, ap, ◌∙◌, arith}
 use native.Mathlib.Decide.{ℕ_discrete}
-use Rattle.graph.proofs.Relabel.{Settles}
+use Rattle.graph.specs.Settling.{Settles}
 use Rattle.update.specs.Lowering.{settled}
 
 pub settled_at_most : (X : ℕ → Bool) (n : ℕ) → settled X n ≤ n

@@ -5,7 +5,8 @@ use Rattle.graph.specs.declared.Graph as graph
 use Rattle.graph.specs.Graph.{Weight}
 use Rattle.graph.specs.Theorems.{Solved}
 use Rattle.graph.specs.Weights.{weights}
-use Rattle.graph.proofs.Relabel.{Picked, Settles}
+use Rattle.graph.proofs.Relabel.{Picked}
+use Rattle.graph.specs.Settling.{Settles}
 use Rattle.table.specs.Climb.{up as parents_of}
 use Rattle.update.specs.declared.work.Work.{Work}
 use Rattle.update.specs.Tabled.{Tabled}

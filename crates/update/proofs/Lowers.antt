@@ -5,7 +5,8 @@ use Rattle.measure.specs.Group.{OrderedGroup}
 use Rattle.graph.specs.Graph.{Weight, Cycle, Edge, Fits}
 use Rattle.graph.specs.Tree.{climb, way, Tree, Tight}
 use Rattle.graph.specs.Theorems.{Solved}
-use Rattle.graph.proofs.Relabel.{Picked, Settles, Relaxed}
+use Rattle.graph.proofs.Relabel.{Picked, Relaxed}
+use Rattle.graph.specs.Settling.{Settles}
 use Rattle.graph.proofs.Regrow.{Turned, Grown, Regrafted}
 use Rattle.graph.proofs.Sums.{le_of_eq, both, weigh, left_comm}
 use Rattle.graph.proofs.Relabels.{not_both, settles_one, climb_inside}

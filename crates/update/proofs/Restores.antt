@@ -156,17 +156,6 @@ module _ {M : Type 0} (m : measure.Ghosts M) (n : ℕ) (w : Weight m.group) (p :
     pub later : (z : ℕ) → k ≤ z → parents_of now z ≡ parents_of start z
     pub long : length now ≡ 64
 
-  pub restore_start : (now : List Row) → now ≡ start → length now ≡ 64 → Restoring now 0
-  restore_start now e long = record {
-    depths = λ z. ap (λ v. deep v z) e;
-    each = λ z h. absurd (none z h);
-    later = λ z h. ap (λ v. parents_of v z) e;
-    long = long;
-  }
-    where
-      none : (z : ℕ) → z < 0 → ⊥
-      none z h = omega arith
-
   module _ (now : List Row) (k : ℕ) (got : Restoring now k) where
     pub restore_keep : (Stands m.group n w (depth m start) p k → parents_of start k ≡ p k) → Restoring now (k + 1)
     restore_keep stays = record {

@@ -1,7 +1,7 @@
 -- Rows and flags after one write. Assumes nothing.
 use Rattle.std.proofs.Common.{◌≡◌, ℕ, zero, suc, ◌<◌, Bool, true, false, List, length, get_or, set, replicate, sym, refl, ap, ◌∙◌, get_or-set_other, get_or-set_same}
 use native.Mathlib.Decide.{ℕ_discrete}
-use Rattle.graph.proofs.Relabel.{Settles}
+use Rattle.graph.specs.Settling.{Settles}
 use Rattle.table.specs.declared.row.Row.{Row}
 use Rattle.table.specs.Climb.{deep, no_row, up as parents_of}
 use Rattle.update.specs.Reading.{flag}

@@ -2,7 +2,7 @@ ghost use Rattle.std.specs.Prelude.{◌≡◌, ℕ, ◌<◌, Some, Decides, IfOk
 ghost use Rattle.graph.specs.Graph.{Weight};
 ghost use Rattle.graph.specs.Theorems.{Solved};
 ghost use Rattle.graph.specs.Weights.{weights};
-ghost use Rattle.table.specs.Climb.{deep, up as parents_of};
+ghost use Rattle.table.specs.Climb.{up as parents_of};
 ghost use Rattle.update.specs.Reading.{Deep, depth, flag};
 ghost use Rattle.update.specs.Lowering.{Falls, Growing, Room, Settlement, SolvedBefore};
 ghost use Rattle.update.specs.Lowers.{Deeper, Falling, Lowers};

@@ -1,5 +1,5 @@
 ghost use Rattle.std.specs.Prelude.{◌≡◌, ℕ, ◌+◌, ◌<◌, ◌≤◌, Some, true, false, replicate};
-ghost use Rattle.graph.proofs.Relabel.{Settles};
+ghost use Rattle.graph.specs.Settling.{Settles};
 ghost use Rattle.graph.specs.Theorems.{Solved};
 ghost use Rattle.graph.specs.Weights.{Usable, weights};
 ghost use Rattle.table.specs.Climb.{deep, up as parents_of};

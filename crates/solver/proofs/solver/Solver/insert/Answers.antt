@@ -58,8 +58,8 @@ returns-in-Ok g c =
     let table = c.args.table in
     let suits = rw (← c.self.view_is) at c.requires.table in
     let found = by_cases (λ (o : Option DepthTable). TableSuits μ s.total m.count t (unwrap_or o table)) c.in-Ok.next
-        (λ e. record { same = suits.same; depths = suits.depths; solved = rw (c.new.ensures.graph, c.new.ensures.table) at (found_as μ _ _ _ _ _ _ _ _ c.lower.ensures c.in-Ok.is e) })
-        (λ next e. suits_of μ s.total m.count t next (rw (c.new.ensures.graph, c.new.ensures.table, suits.same) at (found_as μ _ _ _ _ _ _ _ _ c.lower.ensures c.in-Ok.is e))) in
+    (λ e. record { same = suits.same; depths = suits.depths; solved = rw (c.new.ensures.graph, c.new.ensures.table) at (found_as μ _ _ _ _ _ _ _ _ c.lower.ensures c.in-Ok.is e) })
+    (λ next e. suits_of μ s.total m.count t next (rw (c.new.ensures.graph, c.new.ensures.table, suits.same) at (found_as μ _ _ _ _ _ _ _ _ c.lower.ensures c.in-Ok.is e))) in
     rw (← c.self.view_is, c.unwrap_or.ensures) (found, refl)
 
 pub returns-in-Err : goal.returns-in-Err

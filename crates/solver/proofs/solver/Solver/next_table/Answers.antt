@@ -35,17 +35,17 @@ change-requires g c =
     let step = c.args.step in
     let now = bounds_sound μ s.total m.tie (suits.amounts opened) in
     rw (c.new-update.ensures.graph, c.new-update.ensures.table) (
-      record {
-        start = rw suits.same (rw (← c.self.view_is) at c.requires.start);
-        end = rw suits.same (rw (← c.self.view_is) at c.requires.end);
-        changed = record {
-          was = λ x y. bound_at μ s.total x y (m.tie x y);
-          solved = (suits.table opened).solved;
-          at = sym c.weight-before.ensures;
-          other = λ x y ne. ap (bound_at μ s.total x y) (set_other m.tie step.start step.end step.amount x y ne);
-          small = λ w e. bound_small μ s.total m.tie now step.start step.end w (sym c.weight-before.ensures ∙ e);
-        };
-      }
+    record {
+      start = rw suits.same (rw (← c.self.view_is) at c.requires.start);
+      end = rw suits.same (rw (← c.self.view_is) at c.requires.end);
+      changed = record {
+        was = λ x y. bound_at μ s.total x y (m.tie x y);
+        solved = (suits.table opened).solved;
+        at = sym c.weight-before.ensures;
+        other = λ x y ne. ap (bound_at μ s.total x y) (set_other m.tie step.start step.end step.amount x y ne);
+        small = λ w e. bound_small μ s.total m.tie now step.start step.end w (sym c.weight-before.ensures ∙ e);
+      };
+    }
     )
 
 pub finish-requires : goal.finish-requires

@@ -6,7 +6,7 @@ use Rattle.solver.proofs.solver.Solver.roll_back.Goals as goal
 pub unreachable-requires : goal.unreachable-requires
 unreachable-requires g c =
     let t = c.in-OnTrial in
-    roll_back_fits g.S.TieStore g.M.Measure (held c.self.inside) c.self.invariant.trial t.from t.to t.before t.is (up c.in-Err._work.rows) c.in-Err.ensures.1
+    roll_back_fits g.S.TieStore g.M.Measure (held c.self.inside) c.self.invariant.trial t.from t.to t.before t.is (up c.in-Err._found.rows) c.in-Err.ensures.1
 
 pub returns-in-Ok-clause-answered : goal.returns-in-Ok-clause-answered
 returns-in-Ok-clause-answered g c =

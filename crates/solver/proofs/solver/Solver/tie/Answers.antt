@@ -26,7 +26,7 @@ trail-requires g c =
     let ok : c.check_tie.result ≡ Ok tt = search rules in
     let none = none_of _ (sym c.check_tie.ensures ∙ ok) in
     let passed = pair_passed μ (model g.S.TieStore s).standing t.from t.to _ none in
-    cycle_leads μ.group m.count (bounds_of μ s.total (set_tie m.tie t.from t.to (Some t.amount))) (up c.in-Err.work.rows) t.from t.to
+    cycle_leads μ.group m.count (bounds_of μ s.total (set_tie m.tie t.from t.to (Some t.amount))) (up c.in-Err.found.rows) t.from t.to
     c.in-Err.ensures.1 law.high room (tie_room μ m t.from t.to t.amount room passed)
 
 pub returns-in_err-check_tie : goal.returns-in_err-check_tie
@@ -55,5 +55,5 @@ returns-in-Err g c =
     let k = call.Tie t.from t.to t.amount (length before) in
     let ok : c.check_tie.result ≡ Ok tt = search rules in
     let none = none_of _ (sym c.check_tie.ensures ∙ ok) in
-    let told = tie_contradicted st μ s t.from t.to t.amount before c.trail.new.out c.trail.result (up c.in-Err.work.rows) none c.in-Err.ensures.1 c.trail.ensures.count c.trail.ensures.out in
+    let told = tie_contradicted st μ s t.from t.to t.amount before c.trail.new.out c.trail.result (up c.in-Err.found.rows) none c.in-Err.ensures.1 c.trail.ensures.count c.trail.ensures.out in
     rw c.in-Err.ensures.0 (record { answered = told; logged = goes_on μ m m k before _ _ told })

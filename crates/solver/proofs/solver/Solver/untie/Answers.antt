@@ -16,4 +16,4 @@ unreachable-requires g c =
     let ok : c.check_untie.result ≡ Ok tt = search rules in
     let none = none_of _ (sym c.check_untie.ensures ∙ ok) in
     let opened = ap is_new (pair_open μ (model g.S.TieStore s).standing t.from t.to _ none) in
-    untie_fits g.S.TieStore μ s t.from t.to (whole.suits.table opened) (up c.in-Err._work.rows) c.in-Err.ensures.1
+    untie_fits g.S.TieStore μ s t.from t.to (whole.suits.table opened) (up c.in-Err._found.rows) c.in-Err.ensures.1

@@ -1,14 +1,11 @@
-use Rattle.std.proofs.Common.{ℕ, ◌<◌, ◌≤◌, sym, ap, ◌∙◌, subst, true≢false, arith, rules}
+use Rattle.std.proofs.Common.{ℕ, ◌<◌, ◌≤◌, sym, ◌∙◌, subst, true≢false, arith}
 use Rattle.measure.proofs.Within.{wider_to}
 use Rattle.graph.specs.Tree.{Tree}
 use Rattle.table.specs.Climb.{up as parents_of}
-use Rattle.update.specs.Tabled.{Ready, Tabled}
-use Rattle.update.proofs.Restores.{restore_keep, restore_kept, restore_solved, restore_start, restore_take}
+use Rattle.update.specs.Tabled.{Ready}
+use Rattle.update.proofs.Restores.{restore_keep, restore_kept, restore_solved, restore_take}
 use Rattle.update.proofs.update.Update.restore.Goals as goal
 use Rattle.update.proofs.update.Update.restore.Goals.{then-rows-m+then-path_stands, else-rows-m, else-rows-m-via-then-rows-m+else-path_stands, else-rows-m-via-else-rows-m}
-
-pub loop-m-init : goal.loop-m-init
-loop-m-init g c = restore_start g.M.Measure _ _ _ _ c.rows-rows.result (c.rows-rows.ensures ∙ ap (λ (v : Tabled _). v.table.rows) c.self.view_is) (search rules)
 
 pub loop-m-preserved : goal.loop-m-preserved
 loop-m-preserved g c =

@@ -1,14 +1,9 @@
-use Rattle.std.proofs.Common.{◌≡◌, ap, ◌∙◌, subst, arith}
+use Rattle.std.proofs.Common.{ap, ◌∙◌, subst, arith}
 use Rattle.measure.proofs.Within.{wider_to}
 use Rattle.table.specs.Climb.{up as parents_of}
 use Rattle.update.specs.Tabled.{Tabled, Ready}
 use Rattle.update.proofs.Shrinks.{shrunk}
 use Rattle.update.proofs.update.Update.solved.Goals as goal
-
-pub of-requires-clause-tree : goal.of-requires-clause-tree
-of-requires-clause-tree g c =
-    let few : c.n.result ≡ c.args.self.now.table.n = c.n.ensures ∙ ap (λ (b : Tabled _). b.table.n) c.self.view_is in
-    rw few c.requires.solved.tree
 
 pub returns-clause-solution : goal.returns-clause-solution
 returns-clause-solution g c =
