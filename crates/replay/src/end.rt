@@ -16,14 +16,9 @@ pub fn end_trial<S: TieStore, M: Measure>(
     requires holds { Holds (model S.TieStore solver.old) token }
     ensures ended { Ended M.Measure (model S.TieStore solver.old) token result (model S.TieStore solver.new) }
 {
-    match token {
-        None => None,
-        Some(held) => match solver.roll_back(held) {
-            Ok(counts) => Some(counts),
-            // the token in hand is that of the trial
-            Err(_back) => unreachable(),
-        },
-    }
+    let held = token?;
+    // the token in hand is that of the trial
+    Some(solver.roll_back(held).unwrap())
 }
 
 /// Commits the trial that is out, if one is: whether one was.
@@ -34,12 +29,10 @@ pub fn keep_trial<S: TieStore, M: Measure>(
     requires holds { Holds (model S.TieStore solver.old) token }
     ensures kept { Kept M.Measure (model S.TieStore solver.old) token result (model S.TieStore solver.new) }
 {
-    match token {
-        None => false,
-        Some(held) => match solver.commit(held) {
-            Ok(()) => true,
-            // the token in hand is that of the trial
-            Err(_back) => unreachable(),
-        },
-    }
+    let Some(held) = token else {
+        return false;
+    };
+    // the token in hand is that of the trial
+    solver.commit(held).unwrap();
+    true
 }

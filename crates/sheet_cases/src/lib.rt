@@ -224,13 +224,9 @@ mod tests {
     fn well(rt: HostRuntime) -> Result<(), Fail> {
         let text =
             b"H 3000000\nM datum\nM top\nM base\nT datum top 2000000\nT top base 12000 <\nZ 31 2\n";
-        match check(text) {
-            Ok(header) => {
-                assert_eq!(rt; header.markers, 3);
-                assert_eq!(rt; header.total_depth, 3_000_000);
-            }
-            Err(_) => return Err(Fail::new("refused")),
-        }
+        let header = check(text)?;
+        assert_eq!(rt; header.markers, 3);
+        assert_eq!(rt; header.total_depth, 3_000_000);
         let mut state = State::new();
         let mut list = [NO_TIE; 2];
         assert_eq!(rt; made_in(text, &mut state, &mut list), None);

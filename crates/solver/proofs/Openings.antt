@@ -18,15 +18,15 @@ use Rattle.law.specs.Standing.{bounds_of, Standing, Ties}
 use Rattle.law.specs.declared.call.Answer.TheVariants as answer
 use Rattle.law.specs.declared.call.Call.TheVariants as call
 use Rattle.law.specs.declared.call.Refusal.{Refusal}
-use Rattle.law.specs.declared.call.Refusal.TheVariants.{BadAmount, BadTie, Contradiction, NotNew, ShortBuffer}
+use Rattle.law.specs.declared.call.Refusal.TheVariants.{BadAmount, BadTie, NotNew, ShortBuffer}
 use Rattle.law.specs.declared.call.State.TheVariants as state
 use Rattle.bounds.specs.Small.{BoundsSound}
 use Rattle.solver.specs.Held.{Held}
 use Rattle.solver.specs.Model.{model}
-use Rattle.solver.specs.Opening.{as_result, Witness}
+use Rattle.solver.specs.Opening.{as_result}
 use Rattle.solver.specs.Suits.{Admitted, TableSuits}
 use Rattle.solver.specs.Trials.{Upheld}
-use Rattle.law.proofs.Answers.{accepted, contradicted}
+use Rattle.law.proofs.Answers.{accepted}
 use Rattle.law.proofs.Scans.{lowest_some}
 use Rattle.law.proofs.Scans as scans
 use Rattle.law.proofs.Tables as tables

@@ -1,5 +1,5 @@
 -- A solver after one tie has changed, whatever call it was. Assumes nothing.
-use Rattle.std.proofs.Common.{◌≡◌, ℕ, true, false, Some, None, Ok, Option, sym, refl, ap, ◌∙◌, subst}
+use Rattle.std.proofs.Common.{◌≡◌, ℕ, true, false, Some, None, Ok, Err, Option, Result, sym, refl, ap, ◌∙◌, subst}
 use Rattle.measure.specs.declared.Amount.{Amount}
 use Rattle.measure.specs.declared.Measure.{Ghosts as MeasureGhosts}
 use Rattle.store.specs.declared.TieStore.{Ghosts as StoreGhosts}
@@ -15,7 +15,9 @@ use Rattle.bounds.specs.Small.{Small}
 use Rattle.solver.specs.Held.{Held}
 use Rattle.solver.specs.Changing.{Adopted, counts, KeptPaths, LeadsTo}
 use Rattle.solver.specs.Model.{model}
-use Rattle.solver.specs.Settling.{admitted_step, Settled}
+use Rattle.solver.specs.Settling.{admitted_step, Settled, Settles}
+use Rattle.update.specs.declared.work.Contradiction.{Contradiction}
+use Rattle.std.specs.Result.{IsOk}
 use Rattle.solver.specs.Suits.{Suits, TableSuits}
 use Rattle.solver.specs.Trials.{StateSuits, Upheld}
 use Rattle.solver.specs.Writing.{changed_meaning}
@@ -62,3 +64,13 @@ module _ {S M : Type 0} (st : StoreGhosts S) (μ : MeasureGhosts M) (s : Held S)
       subst (λ (t : DepthTable). Upheld st μ (to t) × Settled μ (model st s) a b o r (model st (to t))) (sym is) (settled_with s.table fits (λ m h path. refl) r (zero ∙ sym (no_counts μ s.table)))
   settled r (Some next) table (fits, kept) (is, counted) =
       subst (λ (t : DepthTable). Upheld st μ (to t) × Settled μ (model st s) a b o r (model st (to t))) (sym is) (settled_with next fits kept r counted)
+
+-- a result that is no error
+pub never_err : {A E : Type 0} (r : Result A E) → ((e : E) → r ≡ Err e → ⊥) → IsOk r
+never_err (Ok x) f = refl
+never_err (Err e) f = absurd (f e refl)
+
+-- what a change leaves, where its result is known
+pub settles_as : {S M : Type 0} (st : StoreGhosts S) (μ : MeasureGhosts M) (s : Held S) (a b : ℕ) (o : Option Amount) (r q : Result Counts Contradiction) (s' : Held S)
+    → Settles st μ s a b o r s' → r ≡ q → Settles st μ s a b o q s'
+settles_as st μ s a b o r q s' h e = subst (λ (v : Result Counts Contradiction). Settles st μ s a b o v s') e h

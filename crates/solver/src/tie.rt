@@ -46,10 +46,7 @@ impl<S: TieStore, M: Measure> Solver<S, M> {
         // lets the proof see what is so of every solver
         let _ = &self.table;
         self.check_untie(from, to)?;
-        match self.settle(from, to, None) {
-            Ok(counts) => Ok(counts),
-            // whatever fits the ties fits them without this one
-            Err(_found) => unreachable(),
-        }
+        // whatever fits the ties fits them without this one
+        Ok(self.settle(from, to, None).unwrap())
     }
 }

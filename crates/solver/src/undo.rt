@@ -25,11 +25,8 @@ impl<S: TieStore, M: Measure> Solver<S, M> {
             State::OnTrial { from, to, before } if token.number == self.number => {
                 let TrialToken { number: _ } = token;
                 self.state = State::Open;
-                match self.settle(from, to, before) {
-                    Ok(counts) => Ok(counts),
-                    // what fitted before the trial fits again
-                    Err(_found) => unreachable(),
-                }
+                // what fitted before the trial fits again
+                Ok(self.settle(from, to, before).unwrap())
             }
             _ => Err(Returned {
                 why: Refusal::WrongToken,

@@ -1,8 +1,7 @@
-use Rattle.std.proofs.Common.{ℕ, Some, Ok, Option, sym, refl, ap, ◌∙◌, subst}
+use Rattle.std.proofs.Common.{Some, Ok, sym, refl, ap, ◌∙◌, subst}
 use Rattle.std.proofs.lemmas.Result.{err_from_is_err_and}
 use Rattle.store.specs.Meaning.{set_tie}
-use Rattle.update.specs.Lowering.{NegativeCycle}
-use Rattle.law.specs.Standing.{bound_at, bounds_of}
+use Rattle.law.specs.Standing.{bound_at}
 use Rattle.bounds.proofs.Limits.{bound_small, set_other, set_sound, usable}
 use Rattle.solver.specs.Changing.{LeadsTo}
 use Rattle.solver.specs.Held.{Held}
