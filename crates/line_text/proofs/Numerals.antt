@@ -10,7 +10,7 @@ use Rattle.std.proofs.lemmas.Bool.{eqb-true, eq-eqb}
 use Rattle.std.proofs.lemmas.Slice.{first_rest}
 use Rattle.std.proofs.lemmas.Slice.Eq.{bytes_eq-Decides}
 use Rattle.std.specs.Str.Parse.{digits_value, ParsesUnsigned}
-use Rattle.std.proofs.lemmas.Fmt.{decimal_nonempty, decimal_digit, first_decimal, digits_decimal, decimal_injective, decimal-digits_value, parse-decimal, IsAscii-from_digits}
+use Rattle.std.proofs.lemmas.Fmt.{decimal_nonempty, decimal_digit, first_decimal, length-decimal-le, digits_decimal, decimal_injective, decimal-digits_value, parse-decimal, IsAscii-from_digits}
 use Rattle.std.proofs.lemmas.Str.{IsUtf8-from_ascii}
 use Rattle.std.proofs.lemmas.Str.Parse.{IsNumeralModel, numerals_by_value, parse_digits, tells_by_index}
 use Rattle.std.proofs.str.Laws.{order}
@@ -26,6 +26,10 @@ numeral_decimal n h = (
   (λ z. ⊎_elim (λ some. absurd (omega (arith, first_decimal n some h))) (λ none. ap length (decimal_digit n (omega arith))) (order 0 n)),
   digits_decimal own n h,
 )
+
+-- bytes that are too many for a number
+pub none_long : (limit : ℕ) → limit < 10 ^ 10 → (bs : List ℕ) → 10 < length bs → (n : ℕ) → n ≤ limit → decimal n ≡ bs → ⊥
+none_long limit small bs e n h s = omega (arith, length-decimal-le 10 n (omega arith) (omega arith) (omega arith), ap length s)
 
 -- a test whether x is the value, given that no other could be
 pub then_reads : {X : Type 0} (spell : X → List ℕ) (Valid : X → Type 0) (bs : List ℕ) (b : Bool) (x : X) → (b ≡ true → Valid x × (spell x ≡ bs)) → (b ≡ false → (y : X) → Valid y → spell y ≢ bs) → ReadsBack spell Valid bs (then_some b x)

@@ -12,6 +12,10 @@ use std::str;
 pub(crate) fn number(bytes: &[u8], limit: u32) -> Option<u32>
     ensures { ReadsBack decimal (λ n. n ≤ limit) bytes.now result }
 {
+    // no number up to the limit has more than ten digits, and longer bytes are not read
+    if bytes.len() > 10 {
+        return None;
+    }
     if !is_numeral(bytes) {
         return None;
     }

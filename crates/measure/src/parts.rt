@@ -1,7 +1,7 @@
 //! Amounts, part by part.
 
-ghost use Rattle.std.specs.Prelude.{◌≡◌, pos};
-ghost use Rattle.measure.specs.Bounds.{up_to};
+ghost use Rattle.std.specs.Prelude.{◌≡◌, ◌+ℤ◌, pos};
+ghost use Rattle.measure.specs.Bounds.{Exact, up_to};
 ghost use Rattle.measure.specs.Parts.{Added, Negated};
 
 use crate::Amount;
@@ -21,9 +21,10 @@ impl Amount {
         (-20_000_000..=20_000_000).contains(&self.mm)
     }
 
-    // The sum, part by part.
+    // The sum, part by part. Of the millimetres it is exact as far as 256 admitted amounts reach, whatever the marks are.
     pub(crate) fn plus(self, other: Amount) -> Amount
-        ensures { Added self other result }
+        ensures added { Added self other result }
+        ensures mm { Exact 5120000000 (self.mm +ℤ other.mm) result.mm }
     {
         Amount {
             mm: self.mm.saturating_add(other.mm),

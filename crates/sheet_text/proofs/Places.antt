@@ -1,5 +1,5 @@
 -- Where a name stands, and lists that grow by one. Assumes nothing.
-use Rattle.std.proofs.Common.{◌≡◌, ℕ, not, position, ◌+◌, ◌<◌, false, ◌⊎◌, ltb, List, [], ◌∷◌, ◌++◌, length, get_or, Some, None, sym, refl, ap, cond, Bor, ◌∙◌, subst, inl, inr, ⊎_elim, arith}
+use Rattle.std.proofs.Common.{◌≡◌, ℕ, zero, suc, not, position, ◌+◌, ◌<◌, false, ◌⊎◌, ltb, List, [], ◌∷◌, ◌++◌, length, get_or, Some, None, sym, refl, ap, cond, Bor, ◌∙◌, subst, inl, inr, ⊎_elim, arith}
 use lib.ListN.{length-map}
 use Rattle.std.specs.Str.{bytes_eq}
 use Rattle.std.proofs.lemmas.Slice.Eq.{bytes_eq-Decides}
@@ -31,6 +31,12 @@ missing xs name e k l s =
       | inl t ↦ some_none (sym (cond-true (ltb place (length xs)) (Some place) None t) ∙ e)
       | inr t ↦ true_false (sym ((bytes_eq-Decides (get_or xs k []) name).1 s) ∙ fails_before_first (λ x. bytes_eq x name) xs k [] (grind (arith, t)))
     ]
+
+-- the bytes at a place of a list of texts
+pub texts_at : (rs : List (Bor (List ℕ))) (i : ℕ) (d : Bor (List ℕ)) → i < length rs → get_or (texts rs) i [] ≡ (get_or rs i d).now
+texts_at [] i d h = absurd (omega arith)
+texts_at (r ∷ rs) zero d h = refl
+texts_at (r ∷ rs) (suc i) d h = texts_at rs i d (omega arith)
 
 place_or_len_texts : (rs : List (Bor (List ℕ))) (name : List ℕ) → position_or_len (λ r. bytes_eq r.now name) rs ≡ position_or_len (λ x. bytes_eq x name) (texts rs)
 place_or_len_texts [] name = refl

@@ -1,5 +1,5 @@
 -- Ties inserted one pair after another. Assumes nothing.
-use Rattle.std.proofs.Common.{◌≡◌, ℕ, ◌+◌, ◌*◌, ◌/◌, ◌%◌, ◌<◌, Bool, true, false, cond, eqb, ltb, List, ◌∷◌, length, Some, None, Ok, Option, Result, sym, refl, ap, ◌∙◌, subst, arith}
+use Rattle.std.proofs.Common.{◌≡◌, ℕ, ◌+◌, ◌*◌, ◌/◌, ◌%◌, ◌<◌, Bool, true, false, cond, eqb, ltb, List, ◌∷◌, length, is_some, Some, None, Ok, Option, Result, sym, refl, ap, ◌∙◌, subst, arith}
 use Rattle.std.proofs.lemmas.Bool.{cond-false, cond-true, lt-ltb, ne_eqb}
 use Rattle.measure.specs.declared.Amount.{Amount}
 use Rattle.measure.specs.declared.Measure.{Ghosts as MeasureGhosts}
@@ -33,6 +33,13 @@ below k = omega arith
 abbrev none_here : Option Amount → Bool
 none_here None = true
 none_here (Some w) = false
+
+pub none_tied : (o : Option Amount) → o ≡ None → is_some o ≡ true → ⊥
+none_tied o e t = let z : false ≡ true = ap is_some (sym e) ∙ t in cc
+
+pub untied_none : (o : Option Amount) → is_some o ≡ false → o ≡ None
+untied_none None e = refl
+untied_none (Some w) e = absurd (let z : true ≡ false = e in cc)
 
 no_none : (w : Amount) → Some w ≡ None → ⊥
 no_none w e = let z : ◌≡◌ {A = ℕ} 0 1 = cc in omega arith

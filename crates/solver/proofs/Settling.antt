@@ -65,6 +65,11 @@ module _ {S M : Type 0} (st : StoreGhosts S) (μ : MeasureGhosts M) (s : Held S)
   settled r (Some next) table (fits, kept) (is, counted) =
       subst (λ (t : DepthTable). Upheld st μ (to t) × Settled μ (model st s) a b o r (model st (to t))) (sym is) (settled_with next fits kept r counted)
 
+-- what is so of every solver says nothing of its count of changes
+pub any_count : {S M : Type 0} (st : StoreGhosts S) (μ : MeasureGhosts M) (s : Held S) (changes : ℕ) → Upheld st μ s
+    → Upheld st μ (record { store = s.store; total = s.total; number = s.number; state = s.state; changes = changes; table = s.table })
+any_count st μ s changes u = record { suits = record { same = u.suits.same; table = u.suits.table; amounts = u.suits.amounts }; trial = u.trial }
+
 -- a result that is no error
 pub never_err : {A E : Type 0} (r : Result A E) → ((e : E) → r ≡ Err e → ⊥) → IsOk r
 never_err (Ok x) f = refl

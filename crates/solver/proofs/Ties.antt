@@ -98,6 +98,12 @@ module _ {M : Type 0} (μ : MeasureGhosts M) (m : StoreMeaning) (a b : ℕ) (w :
   place_by false true u e = absurd (true≢false e)
   place_by false false u e = refl
 
+  -- the store takes the tie
+  pub tie_taken : set_answer m a b (Some w) ≡ Ok tt
+  tie_taken =
+      store_passes m a b (when (not (μ.admits w)) BadAmount ∷ when (ltb room m.count) ShortBuffer ∷ when (not (is_some (m.tie a b)) && eqb m.free 0) StoreFull ∷ []) none _ _ _ _
+      ∙ place_by (is_some (m.tie a b)) (eqb m.free 0) _ has_place
+
 module _ (m : StoreMeaning) (a b : ℕ) (none : untie_refusal m a b ≡ None) where
   tied : is_some (m.tie a b) ≡ true
   tied = not-false (is_some (m.tie a b)) (passed (not (is_some (m.tie a b))) PairEmpty [] (rest_none m a b (when (not (is_some (m.tie a b))) PairEmpty ∷ []) none)).0

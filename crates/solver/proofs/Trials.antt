@@ -27,7 +27,7 @@ use Rattle.solver.specs.Model.{model}
 use Rattle.solver.specs.Suits.{Suits}
 use Rattle.solver.specs.Trials.{CanRollBack, StateSuits, TrialSuits, Upheld}
 use Rattle.solver.proofs.Openings.{passed}
-use Rattle.solver.proofs.Ties.{pair_passed, settled_answered, tie_refusal, tie_stands}
+use Rattle.solver.proofs.Ties.{pair_passed, settled_answered, tie_refusal, tie_stands, untie_fits}
 
 -- ---- the answer of a trial, by that of the tie
 
@@ -140,6 +140,16 @@ module _ {S M : Type 0} (st : StoreGhosts S) (μ : MeasureGhosts M) (s : Held S)
   roll_back_fits q c =
       negative_cycle_refutes μ.group (st.meaning s.store).count (bounds_of μ s.total (set_tie (st.meaning s.store).tie a b was)) (b ∷ way q c.up a) c.sum c.cycle c.negative
       trial_kept.depths trial_kept.fit
+
+  -- nor where the pair has nothing
+  pub undone_fits : Suits st μ s → (o : Option Amount) → (o ≡ was) ⊎ (o ≡ None) → (q : ℕ → ℕ) → NegativeCycle μ.group (st.meaning s.store).count (bounds_of μ s.total (set_tie (st.meaning s.store).tie a b o)) q a b → ⊥
+  undone_fits suits o by q c =
+      let again : (k : Option Amount) → o ≡ k → NegativeCycle μ.group (st.meaning s.store).count (bounds_of μ s.total (set_tie (st.meaning s.store).tie a b k)) q a b
+      = λ k e. subst (λ (i : Option Amount). NegativeCycle μ.group (st.meaning s.store).count (bounds_of μ s.total (set_tie (st.meaning s.store).tie a b i)) q a b) e c in
+      elim by [
+        | inl e ↦ roll_back_fits q (again was e)
+        | inr e ↦ untie_fits st μ s a b (suits.table (ap is_new out)) q (again None e)
+      ]
 
   pub roll_back_answered : (number : ℕ) → number ≡ s.number → (m' : Model) (r : Counts) → Settled μ (model st s) a b was r m'
       → Answered μ (model st s) (call.RollBack number) [] (answer.Changed r.moved r.reparented) [] m'

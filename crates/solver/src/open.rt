@@ -1,6 +1,6 @@
 //! Opening: the store's ties are inserted one after another into the table without ties.
 
-ghost use Rattle.std.specs.Prelude.{◌+◌, ◌<◌, ◌≤◌, length};
+ghost use Rattle.std.specs.Prelude.{◌≡◌, ◌+◌, ◌/◌, ◌%◌, ◌<◌, ◌≤◌, true, is_some, length};
 ghost use Rattle.bounds.specs.Scopes.{in_scope};
 ghost use Rattle.bounds.specs.Small.{BoundsSound};
 ghost use Rattle.bounds.specs.declared.scope.Scope.TheVariants as scope;
@@ -24,20 +24,28 @@ use table::{DepthTable, trail};
 use update::Update;
 
 impl<S: TieStore, M: Measure> Solver<S, M> {
-    // The table of the ties before pair `k` becomes that of the ties up to it; or a cycle goes to the buffer's front, and its
-    // length is answered.
+    // Whether pair `k` has a tie.
+    fn is_tied(&self, k: usize) -> bool
+        requires { k < 4096 }
+        ensures { result ≡ is_some ((S.TieStore.meaning self.now.store).tie (k / 64) (k % 64)) }
+    {
+        let a = (k / 64) as u16;
+        let b = (k % 64) as u16;
+        self.store.amount(a, b).is_some()
+    }
+
+    // The table of the ties before pair `k`, which has one, becomes that of the ties up to it; or a cycle goes to the buffer's
+    // front, and its length is answered.
     fn insert(&self, table: DepthTable, k: usize, cycle: &mut [u16]) -> Result<DepthTable, u16>
         requires limits { BoundsSound M.Measure self.now.total (S.TieStore.meaning self.now.store).tie }
         requires pair { k < 4096 }
         requires room { (S.TieStore.meaning self.now.store).count ≤ length cycle.old }
+        requires tied { is_some ((S.TieStore.meaning self.now.store).tie (k / 64) (k % 64)) ≡ true }
         requires table { TableSuits M.Measure self.now.total (S.TieStore.meaning self.now.store).count (in_scope (S.TieStore.meaning self.now.store).tie (scope.First k)) table }
         ensures { Solves M.Measure self.now.total (S.TieStore.meaning self.now.store).count (in_scope (S.TieStore.meaning self.now.store).tie (scope.First (k + 1))) cycle.old cycle.new result }
     {
         let a = (k / 64) as u16;
         let b = (k % 64) as u16;
-        if self.store.amount(a, b).is_none() {
-            return Ok(table);
-        }
         let bounds = Bounds {
             store: &self.store,
             measure: &self.measure,
@@ -66,6 +74,10 @@ impl<S: TieStore, M: Measure> Solver<S, M> {
             self.total,
         );
         for k in 0..4096usize {
+            // most pairs have none, and the table stays where it is
+            if !self.is_tied(k) {
+                continue;
+            }
             table = self.insert(table, k, cycle)?;
         }
         Ok(table)

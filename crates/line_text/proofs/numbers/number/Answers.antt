@@ -2,8 +2,11 @@ use Rattle.std.proofs.Common.{decimal, sym, ◌∙◌, subst, arith}
 use Rattle.std.proofs.lemmas.Bool.Decides.{nat_tests}
 use Rattle.std.proofs.lemmas.Fmt.{decimal_injective}
 use Rattle.line_text.specs.Spelling.{Numeral}
-use Rattle.line_text.proofs.Numerals.{as_number, as_text, numeral_decimal, then_reads}
+use Rattle.line_text.proofs.Numerals.{as_number, as_text, none_long, numeral_decimal, then_reads}
 use Rattle.line_text.proofs.numbers.number.Goals as goal
+
+pub returns-then-bytes-gt10 : goal.returns-then-bytes-gt10
+returns-then-bytes-gt10 c = none_long c.args.limit (omega arith) c.args.bytes.now (grind (arith, nat_tests))
 
 pub returns-then-not-is_numeral : goal.returns-then-not-is_numeral
 returns-then-not-is_numeral c = λ n h e. let y = c.is_numeral.ensures.1 (subst Numeral e (numeral_decimal n (omega arith))) in cc

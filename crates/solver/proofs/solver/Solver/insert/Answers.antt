@@ -1,4 +1,4 @@
-use Rattle.std.proofs.Common.{◌≡◌, ◌+◌, ◌/◌, ◌%◌, length, None, Option, unwrap_or, sym, refl, ◌∙◌, rules}
+use Rattle.std.proofs.Common.{◌+◌, ◌/◌, ◌%◌, length, Option, unwrap_or, sym, refl, ◌∙◌}
 use Rattle.table.specs.Climb.{up}
 use Rattle.table.specs.declared.table.DepthTable.{DepthTable}
 use Rattle.solver.specs.Suits.{TableSuits}
@@ -8,22 +8,14 @@ use Rattle.bounds.specs.Scopes.{in_scope}
 use Rattle.bounds.specs.declared.scope.Scope.TheVariants.{First}
 use Rattle.bounds.proofs.Firsts.{first_sound}
 use Rattle.bounds.proofs.Limits.{usable}
-use Rattle.solver.proofs.Opens.{by_cases, found_as, insert_none, insert_some, suits_of, tie_bound, witness_of}
+use Rattle.solver.proofs.Opens.{by_cases, found_as, insert_some, none_tied, suits_of, tie_bound, witness_of}
 use Rattle.solver.proofs.solver.Solver.insert.Goals as goal
-
-pub returns-then-is_none : goal.returns-then-is_none
-returns-then-is_none g c =
-    let s = c.self.inside in
-    let table_suits = rw (← c.self.view_is) at c.requires.table in
-    let m = g.S.TieStore.meaning s.store in
-    let none : c.amount.result ≡ None = search rules in
-    rw (← c.self.view_is) (insert_none m (g.S.TieStore.lawful s.store) g.M.Measure s.total c.args.k c.args.table table_suits (sym c.amount.ensures ∙ none), refl)
 
 pub returns-in_default : goal.returns-in_default
 returns-in_default g c =
     let s = c.self.inside in
-    let some : c.amount.result ≡ None → ⊥ = search rules in
-    absurd (tie_bound (g.S.TieStore.meaning s.store) (g.S.TieStore.lawful s.store) g.M.Measure s.total c.args.k (λ e. some (c.amount.ensures ∙ e)) (sym c.weight.ensures ∙ c.in_default.is))
+    let tied = rw (← c.self.view_is) at c.requires.tied in
+    absurd (tie_bound (g.S.TieStore.meaning s.store) (g.S.TieStore.lawful s.store) g.M.Measure s.total c.args.k (λ e. none_tied _ e tied) (sym c.weight.ensures ∙ c.in_default.is))
 
 pub new-requires-clause-graph : goal.new-requires-clause-graph
 new-requires-clause-graph g c =

@@ -1,4 +1,4 @@
-use Rattle.std.proofs.Common.{◌≡◌, ℕ, ◌+◌, List, set, replicate, refl, ap, ◌∙◌, subst, arith}
+use Rattle.std.proofs.Common.{◌≡◌, ℕ, ◌+◌, ◌/◌, ◌%◌, false, is_some, rules, List, set, replicate, refl, ap, ◌∙◌, subst, arith}
 use Rattle.std.proofs.lemmas.Result.{err_from_is_err_and}
 use Rattle.measure.specs.declared.Amount.{Amount}
 use Rattle.bounds.specs.Scopes.{in_scope}
@@ -7,7 +7,7 @@ use Rattle.law.specs.Standing.{bounds_of}
 use Rattle.solver.specs.Opening.{Witness}
 use Rattle.solver.specs.Suits.{TableSuits}
 use Rattle.solver.specs.Trials.{Upheld}
-use Rattle.solver.proofs.Opens.{insert_all, witness_all}
+use Rattle.solver.proofs.Opens.{insert_all, insert_none, untied_none, witness_all}
 use Rattle.solver.proofs.Starts.{start_suits}
 use Rattle.solver.proofs.solver.Solver.solve.Goals as goal
 
@@ -25,6 +25,14 @@ loop-k-init g c =
           m.count (c.flat-table.ensures.n ∙ c.marker_count.ensures),
       refl,
     )
+
+pub loop-k-preserved-then-not-is_tied : goal.loop-k-preserved-then-not-is_tied
+loop-k-preserved-then-not-is_tied g c =
+    let s = c.args.self.now in
+    let m = g.S.TieStore.meaning s.store in
+    let k = c.loop-k.k in
+    let untied : is_some (m.tie (k / 64) (k % 64)) ≡ false = search rules in
+    (insert_none m (g.S.TieStore.lawful s.store) g.M.Measure s.total k c.loop-k.table c.loop-k.invariant.0 (untied_none _ untied), c.loop-k.invariant.1)
 
 pub returns-in_err-table : goal.returns-in_err-table
 returns-in_err-table g c =

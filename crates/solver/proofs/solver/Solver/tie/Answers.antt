@@ -1,10 +1,8 @@
-use Rattle.std.proofs.Common.{◌≡◌, length, Some, Ok, sym, refl, ◌∙◌, rules}
-use Rattle.store.specs.Meaning.{set_tie}
+use Rattle.std.proofs.Common.{◌≡◌, length, Ok, sym, refl, ◌∙◌, rules}
 use Rattle.table.specs.Climb.{up}
 use Rattle.update.proofs.Cycles.{cycle_leads}
 use Rattle.law.proofs.Answers.{refused}
 use Rattle.law.proofs.Tellings.{goes_on}
-use Rattle.law.specs.Standing.{bounds_of}
 use Rattle.law.specs.declared.call.Answer.TheVariants as answer
 use Rattle.law.specs.declared.call.Call.TheVariants as call
 use Rattle.solver.proofs.Openings.{none_of, some_of}
@@ -25,9 +23,8 @@ trail-requires g c =
     let room = length c.args.cycle.now in
     let ok : c.check_tie.result ≡ Ok tt = search rules in
     let none = none_of _ (sym c.check_tie.ensures ∙ ok) in
-    let passed = pair_passed μ (model g.S.TieStore s).standing t.from t.to _ none in
-    cycle_leads μ.group m.count (bounds_of μ s.total (set_tie m.tie t.from t.to (Some t.amount))) (up c.in-Err.found.rows) t.from t.to
-    c.in-Err.ensures.1 law.high room (tie_room μ m t.from t.to t.amount room passed)
+    let passed = pair_passed μ (model g.S.TieStore s).standing _ _ _ none in
+    cycle_leads μ.group m.count _ (up c.in-Err.found.rows) _ _ c.in-Err.ensures.1 law.high room (tie_room μ m _ _ t.amount room passed)
 
 pub returns-in_err-check_tie : goal.returns-in_err-check_tie
 returns-in_err-check_tie g c =

@@ -16,5 +16,5 @@ unwrap-requires g c =
     let whole : Upheld g.S.TieStore μ s = rw (← c.self.view_is) c.self.invariant in
     let ok : c.check_untie.result ≡ Ok tt = search rules in
     let none = none_of _ (sym c.check_untie.ensures ∙ ok) in
-    let opened = ap is_new (pair_open μ (model g.S.TieStore s).standing t.from t.to _ none) in
-    never_err c.settle.result (λ found e. untie_fits g.S.TieStore μ s t.from t.to (whole.suits.table opened) (up found.rows) (settles_as g.S.TieStore μ _ _ _ _ _ _ _ c.settle.ensures e).1)
+    let opened = ap is_new (pair_open μ (model g.S.TieStore s).standing _ _ _ none) in
+    never_err c.settle.result (λ found e. untie_fits g.S.TieStore μ s _ _ (whole.suits.table opened) (up found.rows) (settles_as g.S.TieStore μ _ _ _ _ _ _ _ c.settle.ensures e).1)
