@@ -31,6 +31,10 @@ numeral_decimal n h = (
 pub none_long : (limit : ℕ) → limit < 10 ^ 10 → (bs : List ℕ) → 10 < length bs → (n : ℕ) → n ≤ limit → decimal n ≡ bs → ⊥
 none_long limit small bs e n h s = omega (arith, length-decimal-le 10 n (omega arith) (omega arith) (omega arith), ap length s)
 
+-- bytes spell one number at most
+pub only : (v n : ℕ) (bs : List ℕ) → v < 2 ^ 64 → n < 2 ^ 64 → decimal v ≡ bs → decimal n ≡ bs → n ≡ v
+only v n bs hv hn e f = decimal_injective n v hn hv (f ∙ sym e)
+
 -- a test whether x is the value, given that no other could be
 pub then_reads : {X : Type 0} (spell : X → List ℕ) (Valid : X → Type 0) (bs : List ℕ) (b : Bool) (x : X) → (b ≡ true → Valid x × (spell x ≡ bs)) → (b ≡ false → (y : X) → Valid y → spell y ≢ bs) → ReadsBack spell Valid bs (then_some b x)
 then_reads spell Valid bs true x f g = f refl

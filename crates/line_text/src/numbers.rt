@@ -1,6 +1,6 @@
 //! Decimal numbers with no leading zero.
 
-ghost use Rattle.std.specs.Prelude.{◌≡◌, ◌≤◌, decimal};
+ghost use Rattle.std.specs.Prelude.{◌≡◌, ◌^◌, ◌<◌, ◌≤◌, decimal};
 ghost use Rattle.std.specs.Fmt.{signed_decimal};
 ghost use Rattle.std.specs.Str.{bytes_eq};
 ghost use Rattle.line_text.specs.Spelling.{ReadsBack, Bounded};
@@ -8,18 +8,26 @@ ghost use Rattle.line_text.specs.Spelling.{ReadsBack, Bounded};
 use crate::parts::is_numeral;
 use std::str;
 
-/// The number up to `limit` that `bytes` spell in decimal, if they spell one: no sign, and no zero in front of another digit.
-pub(crate) fn number(bytes: &[u8], limit: u32) -> Option<u32>
-    ensures { ReadsBack decimal (λ n. n ≤ limit) bytes.now result }
+/// The number below 2³² that `bytes` spell in decimal, if they spell one: no sign, and no zero in front of another digit.
+fn decimal_u32(bytes: &[u8]) -> Option<u32>
+    ensures { ReadsBack decimal (λ n. n < 2 ^ 32) bytes.now result }
 {
-    // no number up to the limit has more than ten digits, and longer bytes are not read
+    // no such number has more than ten digits, and longer bytes are not read
     if bytes.len() > 10 {
         return None;
     }
     if !is_numeral(bytes) {
         return None;
     }
-    let value = str::from_utf8(bytes).ok()?.parse::<u32>().ok()?;
+    str::from_utf8(bytes).ok()?.parse().ok()
+}
+
+/// The number up to `limit` that `bytes` spell in decimal, if they spell one: no sign, and no zero in front of another digit.
+#[tactic(auto, using(crate::proofs::Numerals::only))]
+pub(crate) fn number(bytes: &[u8], limit: u32) -> Option<u32>
+    ensures { ReadsBack decimal (λ n. n ≤ limit) bytes.now result }
+{
+    let value = decimal_u32(bytes)?;
     (value <= limit).then_some(value)
 }
 
